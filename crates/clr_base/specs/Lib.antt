@@ -1,0 +1,6 @@
+pub mod Causes
+pub mod Checks
+pub mod Content
+pub mod Files
+pub mod LittleEndian
+pub mod Pieces
