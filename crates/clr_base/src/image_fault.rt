@@ -1,4 +1,5 @@
 //! Why a file is refused.
+ghost use Rattle.std.specs.Prelude.{◌≡◌};
 
 /// What is wrong with a file: the structure that is malformed or leaves the file. The numbers are stable.
 #[derive(Clone, Copy, Debug, PartialEq, Eq)]
@@ -30,4 +31,16 @@ pub enum FaultKind {
 pub struct ImageFault {
     pub kind: FaultKind,
     pub place: u64,
+}
+
+impl ImageFault {
+    /// A fault at an offset in bytes.
+    pub fn new(kind: FaultKind, offset: usize) -> ImageFault
+        ensures { result ≡ record { kind = kind; place = offset } }
+    {
+        ImageFault {
+            kind,
+            place: offset as u64,
+        }
+    }
 }
