@@ -1,0 +1,48 @@
+-- Where all checks pass, each of them does; so the places that `metadata` answers are those of the headers.
+use Rattle.std.proofs.Common.{◌≡◌, ℕ, zero, suc, ◌+◌, ◌*◌, ◌<◌, ◌≤◌, Bool, true, false, cond, List, [], ◌∷◌, length, Result, Ok, Err, refl, sym, ap, arith, get_or}
+use Rattle.std.proofs.lemmas.Bool.{leb-true}
+use Rattle.clr_base.specs.declared.image_fault.ImageFault.{ImageFault}
+use Rattle.clr_base.specs.declared.image_fault.FaultKind.TheVariants.{NotPe}
+use Rattle.clr_base.specs.Checks.{Check, outcome}
+use Rattle.clr_base.proofs.Checks.{outcome_value}
+use Rattle.pe_image.specs.Bodies.{body_by, body_of}
+use Rattle.pe_image.specs.Sections.{table_at}
+use Rattle.pe_image.specs.declared.locate.Places.{Places}
+use Rattle.pe_image.specs.Metadata.{metadata_checks, metadata_of, header_checks, has_section_table, places}
+
+here : {X : Type 0} (passes : Bool) (fault : ImageFault) (r : Result X ImageFault) (z : X) → cond passes r (Err fault) ≡ Ok z → passes ≡ true
+here true fault r z e = refl
+here false fault r z e = cc
+
+behind : {X : Type 0} (passes : Bool) (fault : ImageFault) (r : Result X ImageFault) (z : X) → cond passes r (Err fault) ≡ Ok z → r ≡ Ok z
+behind true fault r z e = e
+behind false fault r z e = cc
+
+pub passes_at : {X : Type 0} (cs : List Check) (i : ℕ) (d : Check) (x z : X) → i < length cs → outcome cs x ≡ Ok z → (get_or cs i d).passes ≡ true
+passes_at [] i d x z within e = absurd (omega arith)
+passes_at (c ∷ cs) zero d x z within e = here c.passes c.fault (outcome cs x) z e
+passes_at (c ∷ cs) (suc i) d x z within e = passes_at cs i d x z (omega arith) (behind c.passes c.fault (outcome cs x) z e)
+
+-- what `metadata` answers of a file
+pub record AreFound (bytes : List ℕ) (found : Places) : Type 0 where
+  pub is : found ≡ places bytes
+  pub table : found.sections_at + 40 * found.section_count ≤ length bytes
+
+table_passes : (bytes : List ℕ) (found : Places) → metadata_of bytes ≡ Ok found → has_section_table bytes ≡ true
+unfolding header_checks
+table_passes bytes found e =
+    passes_at (metadata_checks bytes) 4 (record { passes = true; fault = record { kind = NotPe; place = 0 } }) (places bytes) found (omega arith) e
+
+pub are_found : (bytes : List ℕ) (found : Places) → metadata_of bytes ≡ Ok found → AreFound bytes found
+unfolding places
+are_found bytes found e =
+    let is : found ≡ places bytes = outcome_value (metadata_checks bytes) (places bytes) found e in
+    let table = table_passes bytes found e in
+    record { is = is; table = rw is (leb-true _ _ table) }
+
+-- the body at an RVA, by the section table that `metadata` answered
+pub body_found : (bytes : List ℕ) (found : Places) (rva : ℕ) → metadata_of bytes ≡ Ok found
+    → body_of bytes rva ≡ body_by bytes (table_at bytes found.sections_at found.section_count) rva
+unfolding places
+body_found bytes found rva e =
+    ap (λ (p : Places). body_by bytes (table_at bytes p.sections_at p.section_count) rva) (sym (are_found bytes found e).is)

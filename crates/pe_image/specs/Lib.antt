@@ -1,0 +1,4 @@
+pub mod Bodies
+pub mod Headers
+pub mod Metadata
+pub mod Sections

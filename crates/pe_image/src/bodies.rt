@@ -1,0 +1,59 @@
+//! Method bodies in the file (ECMA-335 II.25.4).
+ghost use Rattle.std.specs.Prelude.{◌≡◌, ◌+◌, ◌*◌, ◌<◌, ◌≤◌, ◌^◌, length, Ok, Some, None, IfOk, IfErr, IfSome};
+ghost use Rattle.std.specs.Option.{option_copied};
+ghost use Rattle.clr_base.specs.declared.image_fault.FaultKind.TheVariants.{OutsideFile};
+ghost use Rattle.pe_image.specs.Bodies.{body_by, body_len, body_of};
+ghost use Rattle.pe_image.specs.Metadata.{metadata_of};
+ghost use Rattle.pe_image.specs.Sections.{table_at};
+
+use crate::locate::Places;
+use crate::sections::SectionTable;
+use clr_base::{FaultKind, ImageFault, read_u32};
+
+/// The length of a fat header in bytes.
+const FAT_HEADER_LEN: u64 = 12;
+
+/// The length of the body at a place, header and code.
+#[tactic(auto, unfolding(crate::specs::Bodies::body_len))]
+fn len_of_body(bytes: &[u8], at: usize) -> Option<u64>
+    requires { at < length bytes.now }
+    ensures exact { result ≡ body_len bytes.now at }
+    ensures short { IfSome result (λ n. n < 2 ^ 33) }
+{
+    let first = bytes[at];
+    match first % 4 {
+        2 => Some(1 + u64::from(first / 4)),
+        3 if at + 12 <= bytes.len() => Some(FAT_HEADER_LEN + u64::from(read_u32(bytes, at + 4))),
+        _ => None,
+    }
+}
+
+/// The body at an RVA, by the section table.
+#[tactic(auto, unfolding(crate::specs::Bodies::body_by))]
+fn find_body<'a>(bytes: &'a [u8], table: SectionTable, rva: u32) -> Option<&'a [u8]>
+    requires { table.at + 40 * table.count ≤ length bytes.now }
+    ensures { option_copied result ≡ body_by bytes.now (table_at bytes.now table.at table.count) rva }
+{
+    let first = table.place_of(bytes, rva, 1)?;
+    let len = len_of_body(bytes, first)?;
+    let start = table.place_of(bytes, rva, len)?;
+    Some(&bytes[start..start + len as usize])
+}
+
+/// The header and code of the method body at an RVA. `OutsideFile` with the RVA where either leaves the file, or where
+/// the first byte begins no header. Takes no memory, and time in the number of sections.
+pub fn body_at<'a>(bytes: &'a [u8], places: &Places, rva: u32) -> Result<&'a [u8], ImageFault>
+    requires { metadata_of bytes.now ≡ Ok places.now }
+    ensures body { IfOk result (λ body. body_of bytes.now rva ≡ Some body.now) }
+    ensures none { IfErr result (λ fault. body_of bytes.now rva ≡ None) }
+    ensures fault { IfErr result (λ fault. fault ≡ record { kind = OutsideFile; place = rva }) }
+{
+    let table = SectionTable {
+        at: places.sections_at as usize,
+        count: places.section_count,
+    };
+    match find_body(bytes, table, rva) {
+        Some(body) => Ok(body),
+        None => Err(ImageFault::new(FaultKind::OutsideFile, rva as usize)),
+    }
+}

@@ -1,0 +1,13 @@
+//! Where the CLI metadata and the method bodies of a PE image lie (PE Format; ECMA-335 II.25).
+#![tactic(auto)]
+
+mod bodies;
+mod headers;
+mod locate;
+mod sections;
+
+pub use bodies::body_at;
+pub use locate::{Places, metadata};
+
+#[cfg(test)]
+mod tests;
