@@ -1,0 +1,11 @@
+pub mod CellLemmas
+pub mod Columns
+pub mod Conjunctions
+pub mod Constants
+pub mod Counts
+pub mod Placing
+pub mod Reading
+pub mod SchemaFacts
+pub mod Sums
+pub mod Texts
+pub mod Walk

@@ -1,0 +1,77 @@
+use super::*;
+use clr_base::{FaultKind, ImageFault};
+use std::alloc::{AllocError, Global};
+use std::test::Fail;
+
+/// The root: `BSJB`, version 1.1, a version text, five streams.
+const ROOT: &[u8] = b"BSJB\x01\0\x01\0\0\0\0\0\x0c\0\0\0v4.0.30319\0\0\0\0\x05\0";
+
+/// The headers of `#~` at 0x6c, `#Strings`, `#US`, `#GUID` and `#Blob`.
+const HEADERS: &[u8] =
+    b"l\0\0\08\0\0\0#~\0\0\xa4\0\0\0\x10\0\0\0#Strings\0\0\0\0\xb4\0\0\0\x04\0\0\0#US\0\xb8\0\0\0\x10\0\0\0#GUID\0\0\0\xc8\0\0\0\x04\0\0\0#Blob\0\0\0";
+
+/// The tables: one row of Module and one of TypeDef.
+const TABLES: &[u8] =
+    b"\0\0\0\0\x02\0\0\x01\x05\0\0\0\0\0\0\0\0\0\0\0\0\0\0\0\x01\0\0\0\x01\0\0\0\0\0\x01\0\x01\0\0\0\0\0\0\0\0\0\x07\0\0\0\0\0\x01\0\x01\0";
+
+/// The heaps. `#Strings` has `m.dll` at 1 and `<Module>` at 7.
+const HEAPS: &[u8] = b"\0m.dll\0<Module>\0\0\0\0\0\0\0\0\0\0\0\0\0\0\0\0\0\0\0\0\0\0\0\0\0";
+
+/// The metadata of the smallest assembly, with one byte changed.
+fn metadata(alloc: Global, at: usize, byte: u8) -> Result<Vec<u8>, AllocError> {
+    let mut meta = Vec::from_slice(alloc, ROOT)?;
+    meta.extend_from_slice(HEADERS)?;
+    meta.extend_from_slice(TABLES)?;
+    meta.extend_from_slice(HEAPS)?;
+    if let Some(place) = meta.get_mut(at) {
+        *place = byte;
+    }
+    Ok(meta)
+}
+
+#[test]
+fn the_smallest_metadata(rt: HostRuntime) -> Result<(), Fail> {
+    let meta = metadata(rt.alloc(), 0, b'B')?;
+    let tables = Tables::read(&meta)?;
+    for (table, rows) in [(0x00, 1), (0x02, 1), (0x04, 0), (0x2c, 0), (0xff, 0)] {
+        assert_eq!(rt; tables.row_count(table), rows);
+    }
+    assert_eq!(rt; tables.string(7), Ok("<Module>"));
+    assert_eq!(rt; tables.string(0), Ok(""));
+    assert_eq!(rt; tables.string(16), Err(FaultKind::BadIndex));
+    assert_eq!(rt; tables.blob(1).ok().map(|blob| blob.len()), Some(0));
+    assert_eq!(rt; tables.blob(4).err(), Some(FaultKind::BadIndex));
+    assert_eq!(rt; tables.user_string(0).ok().map(|blob| blob.len()), Some(0));
+    assert_eq!(rt; tables.user_string(9).err(), Some(FaultKind::BadIndex));
+    Ok(())
+}
+
+#[test]
+fn a_text_that_is_not_utf8(rt: HostRuntime) -> Result<(), Fail> {
+    let meta = metadata(rt.alloc(), 0xab, 0xff)?;
+    let tables = Tables::read(&meta)?;
+    assert_eq!(rt; tables.string(7), Err(FaultKind::BadText));
+    Ok(())
+}
+
+#[test]
+fn each_refusal_of_metadata(rt: HostRuntime) -> Result<(), Fail> {
+    // The byte changed, the length kept, and the fault with its place.
+    let table = [
+        (0, b'b', 204, FaultKind::BadRoot, 0),
+        (0, b'B', 31, FaultKind::BadRoot, 0),
+        (0x20, 0xff, 204, FaultKind::BadStreams, 0x20),
+        (0x29, b'-', 204, FaultKind::BadStreams, 0x20),
+        (0x29, b'x', 204, FaultKind::BadStreams, 0),
+        (0, b'B', 203, FaultKind::BadStreams, 0x5c),
+        (0x72, 8, 204, FaultKind::BadTables, 0x6c),
+        (0x79, 0x20, 204, FaultKind::BadTables, 0x6c),
+        (0x84, 9, 204, FaultKind::BadTables, 0x6c),
+    ];
+    for (at, byte, len, kind, place) in table {
+        let mut meta = metadata(rt.alloc(), at, byte)?;
+        meta.truncate(len);
+        assert_eq!(rt; Tables::read(&meta).err(), Some(ImageFault { kind, place }));
+    }
+    Ok(())
+}
