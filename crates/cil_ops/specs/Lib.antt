@@ -1,0 +1,5 @@
+pub mod Number
+pub mod Binary
+pub mod Compare
+pub mod Convert
+pub mod Faults

@@ -1,0 +1,4 @@
+mod conversions;
+mod faults;
+mod shifts;
+mod two_operands;
