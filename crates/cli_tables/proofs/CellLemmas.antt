@@ -1,5 +1,5 @@
 -- A cell lies in the stream, and has 1, 2 or 4 bytes.
-use Rattle.std.proofs.Common.{◌≡◌, ℕ, zero, suc, ◌+◌, ◌-◌, ◌*◌, ◌<◌, ◌≤◌, List, [], Bool, true, false, cond, length, map, take, get_or, refl, sym, ◌∙◌, ap, arith, ◌⊎◌, inl, inr, nat_lt, slice_index}
+use Rattle.std.proofs.Common.{◌≡◌, ℕ, ◌+◌, ◌-◌, ◌*◌, ◌<◌, ◌≤◌, List, [], Bool, true, false, cond, length, map, get_or, refl, ap, arith, ◌⊎◌, inl, inr, nat_lt, slice_index}
 use Rattle.std.proofs.Math.Nat.{mul-le-mul_right, add-mul}
 use Rattle.std.proofs.Math.ListN.{get_or-eq_default}
 use Rattle.std.proofs.lemmas.Bool.{leb-true, lt-leb}
@@ -12,7 +12,7 @@ use Rattle.cli_tables.specs.declared.schema.TheConstants.{TABLES}
 use Rattle.cli_tables.specs.declared.layout.CellPlace.{CellPlace}
 use Rattle.cli_tables.specs.declared.layout.TablePlace.{TablePlace}
 use Rattle.cli_tables.specs.Schema.{columns, tables_of, tag_bits}
-use Rattle.cli_tables.specs.Layout.{width, widths, row_count, row_counts, heap_sizes, row_width, start, offset, column_width, cell_at, cell, is_read_width, are_tables, has_bit, fits_coded, is_few, IsCell}
+use Rattle.cli_tables.specs.Layout.{width, widths, row_count, row_counts, heap_sizes, row_width, start, offset, column_width, cell_at, is_read_width, are_tables, has_bit, fits_coded, is_few, IsCell}
 use Rattle.cli_tables.specs.Places.{IsTablePlace}
 use Rattle.cli_tables.proofs.Counts.{few_at}
 use Rattle.cli_tables.proofs.Placing.{start_next}

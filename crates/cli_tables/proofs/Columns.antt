@@ -1,5 +1,5 @@
 -- One more column of a row.
-use Rattle.std.proofs.Common.{◌≡◌, ℕ, ◌+◌, ◌<◌, ◌≢◌, List, length, take, map, get_or, refl, sym, ◌∙◌, ap, ap₂, arith, get_or-set_other, get_or-set_same, below_more, slice_set}
+use Rattle.std.proofs.Common.{◌≡◌, ℕ, ◌+◌, ◌<◌, ◌≢◌, List, length, take, get_or, sym, ◌∙◌, ap₂, arith, get_or-set_other, get_or-set_same, below_more, slice_set}
 use Rattle.std.proofs.lemmas.List.{get_or-map}
 use Rattle.std.proofs.lemmas.List.Sums.{sum_by_more}
 use Rattle.cli_tables.specs.declared.schema.Column.{Column}

@@ -1,6 +1,5 @@
 -- A chain of tests: one that fails makes the chain fail.
-use Rattle.std.proofs.Common.{◌≡◌, ◌<◌, ◌≤◌, ℕ, Bool, true, false, ◌&&◌, refl, sym, nat_le}
-use Rattle.std.proofs.lemmas.Bool.{le-leb, lt-leb}
+use Rattle.std.proofs.Common.{◌≡◌, Bool, true, false, ◌&&◌, refl, sym}
 
 pub fails_last : (x y : Bool) → y ≡ false → false ≡ (x && y)
 fails_last true y e = sym e

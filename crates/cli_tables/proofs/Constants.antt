@@ -1,5 +1,5 @@
 -- What stands behind the references of a constant list.
-use Rattle.std.proofs.Common.{◌≡◌, ℕ, zero, suc, ◌+◌, ◌<◌, List, [], ◌∷◌, length, map, get_or, refl, ◌∙◌, ap, arith}
+use Rattle.std.proofs.Common.{◌≡◌, ℕ, zero, suc, ◌<◌, List, [], ◌∷◌, length, map, get_or, refl, ◌∙◌, ap, arith}
 use Rattle.std.specs.Borrow.{Bor}
 
 behind : {X : Type 0} (xs : List (Bor X)) (i : ℕ) (d : Bor X) (e : X) → i < length xs → (get_or xs i d).now ≡ get_or (map (λ x. x.now) xs) i e

@@ -1,10 +1,10 @@
 -- The place of a table, by what its columns and counts were found to be; and one more table in a list of places.
-use Rattle.std.proofs.Common.{◌≡◌, ◌≢◌, ℕ, ◌+◌, ◌*◌, ◌<◌, ◌≤◌, List, length, get_or, ap, sym, ◌∙◌, subst, arith, below_more, slice_set, get_or-set_same, get_or-set_other}
+use Rattle.std.proofs.Common.{◌≡◌, ◌≢◌, ℕ, ◌+◌, ◌*◌, ◌<◌, List, length, get_or, ap, sym, ◌∙◌, subst, arith, below_more, slice_set, get_or-set_same, get_or-set_other}
 use Rattle.cli_tables.specs.declared.schema.Column.{Column}
 use Rattle.cli_tables.specs.declared.layout.CellPlace.{CellPlace}
 use Rattle.cli_tables.specs.declared.layout.TablePlace.{TablePlace}
 use Rattle.cli_tables.specs.Schema.{columns}
-use Rattle.cli_tables.specs.Layout.{widths, row_count, row_counts, heap_sizes, row_width, start, rows_at, sum_below}
+use Rattle.cli_tables.specs.Layout.{widths, row_count, row_counts, heap_sizes, row_width, start, rows_at}
 use Rattle.cli_tables.specs.Places.{AreColumnPlaces, IsTablePlace}
 use Rattle.cli_tables.proofs.Counts.{row_counts_at}
 use Rattle.cli_tables.proofs.Sums.{sum_below_none, sum_below_more}

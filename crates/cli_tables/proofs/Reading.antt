@@ -1,5 +1,5 @@
 -- Metadata whose streams were found, and whose tables are whole, is read.
-use Rattle.std.proofs.Common.{◌≡◌, ℕ, List, Bool, true, Ok, refl, sym, ◌∙◌, ap, subst, is_some}
+use Rattle.std.proofs.Common.{◌≡◌, ℕ, List, true, Ok, refl, sym, ◌∙◌, ap, subst, is_some}
 use Rattle.clr_base.specs.Checks.{outcome}
 use Rattle.clr_base.proofs.Checks.{outcome_passed, outcome_value}
 use Rattle.cli_tables.specs.declared.streams.Streams.{Streams}

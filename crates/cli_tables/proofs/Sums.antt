@@ -1,5 +1,5 @@
 -- Sums over the numbers below a number.
-use Rattle.std.proofs.Common.{◌≡◌, ℕ, zero, suc, ◌+◌, ◌*◌, ◌<◌, ◌≤◌, List, length, Bool, true, false, refl, arith, add-one, ap, ◌∙◌, ◌⊎◌, inl, inr, subst, sym}
+use Rattle.std.proofs.Common.{◌≡◌, ℕ, zero, suc, ◌+◌, ◌*◌, ◌<◌, ◌≤◌, List, length, Bool, true, false, refl, arith, add-one, ap, ◌∙◌, ◌⊎◌, inl, inr, sym}
 use mir.Val.{bool_byte}
 use Rattle.cli_tables.specs.Layout.{sum_below, present_in, one_if, has_bit, valid, rows_at}
 

@@ -1,5 +1,5 @@
 -- Bytes that are UTF-8, and bytes that aren't.
-use Rattle.std.proofs.Common.{◌≡◌, ℕ, List, Bool, true, false, refl, sym, Ok, Err, Some, cond}
+use Rattle.std.proofs.Common.{◌≡◌, ℕ, List, Bool, true, false, refl, Ok, Err, Some}
 use Rattle.std.specs.Str.{IsUtf8, is_utf8}
 use Rattle.std.proofs.lemmas.Str.{IsUtf8-from_is_utf8, is_utf8-from_IsUtf8}
 use Rattle.clr_base.specs.declared.image_fault.FaultKind.TheVariants.{BadText}

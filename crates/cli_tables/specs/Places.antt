@@ -1,5 +1,5 @@
 -- What is kept of the layout of `#~`: for each table its place, and that of its columns.
-use Rattle.std.specs.Prelude.{◌≡◌, ℕ, ◌<◌, ◌≤◌, List, map, take, length, get_or, true}
+use Rattle.std.specs.Prelude.{◌≡◌, ℕ, ◌<◌, List, map, take, length, get_or, true}
 use Rattle.cli_tables.specs.declared.schema.Column.{Column}
 use Rattle.cli_tables.specs.declared.layout.CellPlace.{CellPlace}
 use Rattle.cli_tables.specs.declared.layout.TablePlace.{TablePlace}

@@ -1,8 +1,8 @@
-use Rattle.std.proofs.Common.{◌≡◌, ◌+◌, ◌-◌, ◌*◌, ◌<◌, ◌≤◌, ℕ, List, true, length, get_or, sym, ◌∙◌, ap, ap₂, subst, arith}
+use Rattle.std.proofs.Common.{◌≡◌, ℕ, true, sym, ◌∙◌, ap₂, subst, arith}
 use Rattle.clr_base.specs.LittleEndian.{number_at}
 use Rattle.cli_tables.specs.declared.layout.CellPlace.{CellPlace}
-use Rattle.cli_tables.specs.Layout.{cell, cell_at, column_width, is_read_width}
-use Rattle.cli_tables.proofs.CellLemmas.{CellFound, cell_found, inside, reads}
+use Rattle.cli_tables.specs.Layout.{cell, is_read_width}
+use Rattle.cli_tables.proofs.CellLemmas.{cell_found, inside, reads}
 use Rattle.cli_tables.proofs.cells.read_cell.Goals as goal
 
 abbrev none : CellPlace

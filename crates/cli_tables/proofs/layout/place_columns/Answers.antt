@@ -1,4 +1,4 @@
-use Rattle.std.proofs.Common.{◌≡◌, ◌+◌, ◌∙◌, take, refl, arith, length-set}
+use Rattle.std.proofs.Common.{refl, arith, length-set}
 use Rattle.cli_tables.specs.Layout.{widths}
 use Rattle.cli_tables.specs.declared.schema.Column.TheVariants.{U8}
 use Rattle.cli_tables.proofs.Columns.{widths_more, place_more}

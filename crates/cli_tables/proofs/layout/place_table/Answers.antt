@@ -1,4 +1,4 @@
-use Rattle.std.proofs.Common.{◌<◌, length, arith}
+use Rattle.std.proofs.Common.{arith}
 use Rattle.cli_tables.proofs.Counts.{length-row_counts}
 use Rattle.cli_tables.proofs.Placing.{placed}
 use Rattle.cli_tables.proofs.SchemaFacts.{short}

@@ -1,4 +1,4 @@
-use Rattle.std.proofs.Common.{◌≡◌, ℕ, ◌+◌, ◌*◌, ◌<◌, ◌≤◌, List, true, length, refl, sym, ◌∙◌, ap₂, subst, arith, length-set}
+use Rattle.std.proofs.Common.{◌≡◌, ℕ, ◌*◌, ◌≤◌, List, true, refl, sym, ◌∙◌, ap₂, subst, arith, length-set}
 use Rattle.std.proofs.Math.Nat.{mul-le-mul_right}
 use Rattle.std.specs.List.{list_all}
 use Rattle.cli_tables.specs.Layout.{row_count, row_counts, heap_sizes, row_width, is_few}

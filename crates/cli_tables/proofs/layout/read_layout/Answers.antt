@@ -1,7 +1,7 @@
-use Rattle.std.proofs.Common.{◌≡◌, ◌<◌, ◌≤◌, ℕ, suc, List, true, false, length, sym, ◌∙◌, ap, subst, arith}
+use Rattle.std.proofs.Common.{◌<◌, ◌≤◌, ℕ, suc, length, sym, ◌∙◌, ap, subst, arith}
 use Rattle.std.proofs.lemmas.Bool.{le-leb, lt-leb}
 use Rattle.std.specs.List.{list_all, range_with_len}
-use Rattle.cli_tables.specs.Layout.{are_tables, absent_or_known, is_few, row_counts, rows_at, start, heap_sizes}
+use Rattle.cli_tables.specs.Layout.{are_tables, absent_or_known, is_few, rows_at, start, heap_sizes}
 use Rattle.cli_tables.proofs.Conjunctions.{fails_last, fails_before, both_hold}
 use Rattle.cli_tables.proofs.layout.read_layout.Goals as goal
 

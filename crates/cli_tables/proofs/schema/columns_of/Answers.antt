@@ -1,4 +1,4 @@
-use Rattle.std.proofs.Common.{rules, [], map, refl, sym}
+use Rattle.std.proofs.Common.{rules, [], map, sym}
 use Rattle.std.proofs.Math.ListN.{get_or-eq_default}
 use Rattle.cli_tables.specs.Schema.{columns}
 use Rattle.cli_tables.specs.declared.schema.TheConstants.{TABLES}

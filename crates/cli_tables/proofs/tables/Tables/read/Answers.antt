@@ -1,4 +1,4 @@
-use Rattle.std.proofs.Common.{◌≡◌, ℕ, List, true, Ok, is_some, sym, ◌∙◌, ap, subst, refl}
+use Rattle.std.proofs.Common.{◌≡◌, ℕ, List, true, Ok, is_some, sym, ◌∙◌, ap, subst}
 use Rattle.cli_tables.specs.Layout.{are_tables}
 use Rattle.cli_tables.specs.Metadata.{part}
 use Rattle.cli_tables.proofs.Reading.{read_whole, same_contents}
