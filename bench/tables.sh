@@ -43,6 +43,7 @@ use pe_image::metadata;
 use std::env;
 use std::time::Instant;
 
+#[derive(Drop)]
 struct Sum {
     cells: u64,
     sum: u64,
