@@ -8,7 +8,7 @@ mod probing;
 #[cfg(test)]
 mod tests;
 
-pub use laws::{key_spelled, one_cell, one_handle, one_key};
+pub use laws::{key_spelled, one_cell, one_handle, one_key, told_once};
 pub use node::Node;
 pub use nodes::Nodes;
 pub use probing::{Cell, put, seek};
