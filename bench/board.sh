@@ -1,7 +1,7 @@
 #!/bin/bash
 # Puts and seeks a second on the board: 49,152 nodes in 65,536 cells, which 1, 2 and 4 threads each put, and then each seek,
 # in orders of their own. Beside it, in the same run, a Mutex<HashMap> of plain Rust does the same work.
-# It prints calls a second of all threads together, as ratios to the board on one thread.
+# It prints calls a second of all threads together, the best of five rounds, as ratios to the board on one thread.
 set -e
 top=$(cd "$(dirname "$0")/.." && pwd)
 for tool in rt rustc; do
@@ -209,7 +209,7 @@ fn run_all<R: Threads + Sync>(
 }
 
 fn main(rt: HostRuntime) -> Result<()> {
-    for threads in [1, 2, 4] {
+    for threads in [1, 2, 4, 1, 2, 4, 1, 2, 4, 1, 2, 4, 1, 2, 4] {
         let (board, seat) = Board::open(rt.alloc(), Cells, 2_162_688)?;
         let start = Instant::now(&rt)?;
         let Some(seat) = run_all(&rt, rt.alloc(), &board, seat, Work::Put, threads) else {
@@ -266,7 +266,7 @@ fn run(threads: usize, work: impl Fn(u64) + Sync) -> u128 {
 }
 
 fn main() {
-    for threads in [1, 2, 4] {
+    for threads in [1, 2, 4].repeat(5) {
         let table = Mutex::new(HashMap::<u64, u32>::with_capacity(65_536));
         let put = run(threads, |node| {
             let mut table = table.lock().unwrap();
@@ -284,8 +284,9 @@ rustc -O -o "$work/peer" "$work/peer.rs"
 "$work/peer" >"$work/map"
 
 awk '
-    FNR == NR { put[$1] = $1 / $2; seek[$1] = $1 / $3; next }
-    { map_put[$1] = $1 / $2; map_seek[$1] = $1 / $3 }
+    function best(table, key, speed) { if (speed > table[key]) table[key] = speed }
+    FNR == NR { best(put, $1, $1 / $2); best(seek, $1, $1 / $3); next }
+    { best(map_put, $1, $1 / $2); best(map_seek, $1, $1 / $3) }
     END {
         printf "%-8s %10s %10s %14s %14s\n", "threads", "put", "seek", "map: put", "map: seek"
         for (n = 1; n <= 4; n *= 2)
