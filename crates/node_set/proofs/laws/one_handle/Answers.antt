@@ -1,0 +1,7 @@
+use Rattle.node_set.proofs.Probes.{one_cell}
+use Rattle.node_set.proofs.Spelling.{one_handle}
+use Rattle.node_set.proofs.laws.one_handle.Goals as goal
+
+pub returns : goal.returns
+returns g c = λ page all lawful key a b s t.
+    one_handle (g.P.Page.cell_count page) all (one_cell (g.P.Meaning.may page) (g.P.Page.cell_count page) (λ l m may low. (g.met.P.Nodes.node_rule page l m may low).1) all lawful) key a b s t

@@ -1,0 +1,9 @@
+pub mod Weights
+pub mod Places
+pub mod Marks
+pub mod Numbers
+pub mod Views
+pub mod Rule
+pub mod Steps
+pub mod Closing
+pub mod Boards

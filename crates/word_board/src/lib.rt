@@ -1,0 +1,18 @@
+//! Words that are set once, which threads share without a lock, and what each pass knows of them.
+#![tactic(auto)]
+
+mod board;
+mod opening;
+mod page;
+mod passes;
+mod plays;
+mod seat;
+mod steps;
+#[cfg(test)]
+mod tests;
+mod view;
+
+pub use board::Board;
+pub use page::{Meaning, Page};
+pub use seat::Seat;
+pub use view::{Draw, Fate, Mark, Name, Plan, View};
