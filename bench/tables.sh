@@ -82,7 +82,7 @@ fn main(rt: HostRuntime) -> Result<()> {
         for table in 0..45 {
             add_table(&tables, table, &mut sum);
         }
-        best = best.min(begin.elapsed(&rt)?.as_micros() as u64);
+        best = best.min(u64::try_from(begin.elapsed(&rt)?.as_micros()).unwrap_or(u64::MAX));
     }
     let (cells, total) = (sum.cells, sum.sum);
     println!(&rt; "{cells} {total} {best}")?;
