@@ -1,7 +1,7 @@
 #!/bin/bash
-# Compares the names that `clr names` and `monodis --typedef` print of each assembly in a folder: monodis prints a nested
-# type's name alone, so of a name what stands behind the last `+` is compared. Prints how many assemblies were tried, how many
-# agree, and each that doesn't.
+# Compares the names that `clr names` and `monodis --typedef` print of each assembly in a folder. Of a nested type what stands
+# behind the last `+` or `/` is compared, and what monodis prints as (null) is `<Module>`. Prints how many assemblies were tried,
+# how many agree, and each that doesn't.
 #   bench/compare_names.sh [FOLDER]     FOLDER is Mono's class libraries where it isn't given
 top=$(cd "$(dirname "$0")/.." && pwd)
 folder=${1:-/usr/lib/mono}
@@ -28,7 +28,7 @@ for file in files:
         print(f'{file}: {ours.stderr.decode().strip()}')
         continue
     names = [line[2:].rsplit('+', 1)[-1] for line in ours.stdout.decode().split('\n')[1:-1]]
-    listed = [m.group(1) for m in re.finditer(r'^\d+: (.*) \(flist=', theirs.stdout.decode(errors='replace'), re.M)]
+    listed = [m.group(1).rsplit('/', 1)[-1].replace('(null)', '<Module>') for m in re.finditer(r'^\d+: (.*) \(flist=', theirs.stdout.decode(errors='replace'), re.M)]
     if names == listed:
         same += 1
     else:
