@@ -1,0 +1,157 @@
+//! The five readers.
+ghost use Rattle.std.specs.Prelude.{◌≡◌, ◌<◌, ◌^◌, length};
+ghost use Rattle.cli_sigs.specs.Reading.{Gives};
+ghost use Rattle.cli_sigs.specs.Signatures as spec;
+ghost use Rattle.cli_sigs.specs.Signatures.{Answers, placed};
+
+use crate::compressed::{argument_count, number};
+use crate::fault::{SigFault, Stop};
+use crate::marks::{Before, marks};
+use crate::signature::{RowCounts, SigMethod, SigTy, SigTyList};
+use crate::types::{Callee, marked_type, method, type_of, types};
+use sqlite_items::Items;
+use std::alloc::Global;
+
+/// How deep constructors may be nested.
+const MOST_LEVELS: u32 = 64;
+
+/// The bytes after the code that says which kind of signature this is.
+#[tactic(auto, unfolding(crate::specs::Signatures::kind_at))]
+fn kind(code: u8, bytes: &[u8]) -> Result<&[u8], Stop>
+    ensures { Gives (λ rest. rest.now) result (spec.kind_at code bytes.now) }
+{
+    match bytes {
+        [first, rest @ ..] if *first == code => Ok(rest),
+        _ => Err(Stop::Left(bytes.len())),
+    }
+}
+
+#[tactic(auto, unfolding(crate::specs::Signatures::field_at, crate::specs::Signatures::whole_type_at))]
+fn field<'a>(alloc: Global, counts: &RowCounts, bytes: &'a [u8]) -> Result<(SigTy, &'a [u8]), Stop>
+    ensures { Gives (λ x. (x.0, x.1.now)) result (spec.field_at counts.now bytes.now) }
+{
+    let rest = kind(0x06, bytes)?;
+    marked_type(alloc, counts, MOST_LEVELS, rest)
+}
+
+/// As many locals as the number says.
+#[tactic(auto, unfolding(crate::specs::Signatures::local_at, crate::specs::Signatures::whole_type_at))]
+fn local<'a>(alloc: Global, counts: &RowCounts, bytes: &'a [u8]) -> Result<(SigTy, &'a [u8]), Stop>
+    ensures { Gives (λ x. (x.0, x.1.now)) result (spec.local_at counts.now bytes.now) }
+{
+    let rest = marks(counts, Before::Local, bytes)?;
+    type_of(alloc, counts, MOST_LEVELS, rest)
+}
+
+#[tactic(auto, unfolding(crate::specs::Signatures::locals_at))]
+fn locals<'a>(
+    alloc: Global,
+    counts: &RowCounts,
+    bytes: &'a [u8],
+) -> Result<(SigTyList, &'a [u8]), Stop>
+    ensures { Gives (λ x. (x.0, x.1.now)) result (spec.locals_at counts.now bytes.now) }
+{
+    let rest = kind(0x07, bytes)?;
+    let (count, mut rest) = number(rest)?;
+    let mut list = Items::new(alloc);
+    for _ in 0..count {
+        let (one, after) = local(alloc, counts, rest)?;
+        list.push(one)?;
+        rest = after;
+    }
+    Ok((list, rest))
+}
+
+#[tactic(auto, unfolding(crate::specs::Signatures::method_spec_at, crate::specs::Signatures::whole_type_at))]
+fn method_spec<'a>(
+    alloc: Global,
+    counts: &RowCounts,
+    bytes: &'a [u8],
+) -> Result<(SigTyList, &'a [u8]), Stop>
+    ensures { Gives (λ x. (x.0, x.1.now)) result (spec.method_spec_at counts.now bytes.now) }
+{
+    let rest = kind(0x0a, bytes)?;
+    let (count, rest) = argument_count(rest)?;
+    types(alloc, counts, MOST_LEVELS, count, rest)
+}
+
+/// Reads a field's signature (II.23.2.4).
+///
+/// # Errors
+///
+/// `Bad` with the first byte that the grammar doesn't allow; bytes after the signature are ignored.
+pub fn read_field(alloc: Global, blob: &[u8], counts: &RowCounts) -> Result<SigTy, SigFault>
+    requires { length blob.now < 2 ^ 32 }
+    ensures { Answers result (placed blob.now (spec.field_at counts.now blob.now)) }
+{
+    match field(alloc, counts, blob) {
+        Ok((ty, _)) => Ok(ty),
+        Err(stop) => Err(stop.in_blob(blob)),
+    }
+}
+
+/// Reads a method's signature, of a definition or a reference (II.23.2.1 and II.23.2.2).
+///
+/// # Errors
+///
+/// As [`read_field`].
+#[tactic(auto, unfolding(crate::specs::Signatures::member_at, crate::specs::Signatures::whole_type_at))]
+pub fn read_method(alloc: Global, blob: &[u8], counts: &RowCounts) -> Result<SigMethod, SigFault>
+    requires { length blob.now < 2 ^ 32 }
+    ensures { Answers result (placed blob.now (spec.member_at counts.now blob.now)) }
+{
+    match method(alloc, counts, MOST_LEVELS, Callee::Member, blob) {
+        Ok((method, _)) => Ok(method),
+        Err(stop) => Err(stop.in_blob(blob)),
+    }
+}
+
+/// Reads the types of a method body's locals (II.23.2.6).
+///
+/// # Errors
+///
+/// As [`read_field`].
+pub fn read_locals(alloc: Global, blob: &[u8], counts: &RowCounts) -> Result<SigTyList, SigFault>
+    requires { length blob.now < 2 ^ 32 }
+    ensures { Answers result (placed blob.now (spec.locals_at counts.now blob.now)) }
+{
+    match locals(alloc, counts, blob) {
+        Ok((list, _)) => Ok(list),
+        Err(stop) => Err(stop.in_blob(blob)),
+    }
+}
+
+/// Reads the type that a TypeSpec row names (II.23.2.14).
+///
+/// # Errors
+///
+/// As [`read_field`].
+#[tactic(auto, unfolding(crate::specs::Signatures::whole_type_at))]
+pub fn read_type_spec(alloc: Global, blob: &[u8], counts: &RowCounts) -> Result<SigTy, SigFault>
+    requires { length blob.now < 2 ^ 32 }
+    ensures { Answers result (placed blob.now (spec.whole_type_at counts.now blob.now)) }
+{
+    match type_of(alloc, counts, MOST_LEVELS, blob) {
+        Ok((ty, _)) => Ok(ty),
+        Err(stop) => Err(stop.in_blob(blob)),
+    }
+}
+
+/// Reads the generic arguments that a MethodSpec row gives a method (II.23.2.15).
+///
+/// # Errors
+///
+/// As [`read_field`].
+pub fn read_method_spec(
+    alloc: Global,
+    blob: &[u8],
+    counts: &RowCounts,
+) -> Result<SigTyList, SigFault>
+    requires { length blob.now < 2 ^ 32 }
+    ensures { Answers result (placed blob.now (spec.method_spec_at counts.now blob.now)) }
+{
+    match method_spec(alloc, counts, blob) {
+        Ok((list, _)) => Ok(list),
+        Err(stop) => Err(stop.in_blob(blob)),
+    }
+}
