@@ -1,7 +1,7 @@
 -- Compressed numbers (II.23.2), and the numbers that name a row.
 use Rattle.std.specs.Prelude.{ℕ, ◌+◌, ◌-◌, ◌*◌, ◌/◌, ◌%◌, Bool, true, false, ◌&&◌, not, nat_lt, nat_le, ◌==◌, List, [], ◌∷◌, Ok, if◌then◌else◌}
 use Rattle.cli_sigs.specs.declared.signature.RowCounts.{RowCounts}
-use Rattle.cli_sigs.specs.Reading.{Part, refused, passing}
+use Rattle.cli_sigs.specs.Reading.{Part, ◌>>=◌, refused, passing, repeated}
 
 -- behind 10xxxxxx one more byte
 abbrev pub two_bytes_at : ℕ → List ℕ → Part ℕ
@@ -58,3 +58,11 @@ is_some n = nat_lt 0 n
 
 unfoldable pub argument_count_at : List ℕ → Part ℕ
 argument_count_at bytes = passing is_some bytes (number_at bytes)
+
+-- a count, and that many parts
+abbrev pub counted_at : {X : Type 0} → (List ℕ → Part X) → List ℕ → Part (List X)
+counted_at one bytes = number_at bytes >>= λ count. repeated one count.0 count.1
+
+-- the same of arguments
+abbrev pub arguments_at : {X : Type 0} → (List ℕ → Part X) → List ℕ → Part (List X)
+arguments_at one bytes = argument_count_at bytes >>= λ count. repeated one count.0 count.1

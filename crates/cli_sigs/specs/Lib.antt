@@ -5,3 +5,4 @@ pub mod Marks
 pub mod Types
 pub mod Signatures
 pub mod Fault
+pub mod Grammar

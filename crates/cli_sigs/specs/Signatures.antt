@@ -7,8 +7,8 @@ use Rattle.cli_sigs.specs.declared.fault.SigFault.{SigFault}
 use Rattle.cli_sigs.specs.declared.fault.SigFault.TheVariants as fault
 use Rattle.cli_sigs.specs.declared.marks.Before.TheVariants as before
 use Rattle.cli_sigs.specs.declared.types.Callee.TheVariants as callee
-use Rattle.cli_sigs.specs.Reading.{Answer, Part, ◌>>=◌, refused, repeated}
-use Rattle.cli_sigs.specs.Compressed.{number_at, argument_count_at}
+use Rattle.cli_sigs.specs.Reading.{Answer, Part, ◌>>=◌, refused}
+use Rattle.cli_sigs.specs.Compressed.{counted_at, arguments_at}
 use Rattle.cli_sigs.specs.Marks.{marked}
 use Rattle.cli_sigs.specs.Types.{Reader, type_at, method_at, marked_type_at}
 
@@ -38,17 +38,11 @@ unfoldable pub local_at : RowCounts → Reader SigTy
 local_at counts bytes = marked counts before.Local (whole_type_at counts) bytes
 
 unfoldable pub locals_at : RowCounts → Reader (List SigTy)
-locals_at counts bytes = do
-  rest ← kind_at 0x07 bytes
-  count ← number_at rest
-  repeated (local_at counts) count.0 count.1
+locals_at counts bytes = kind_at 0x07 bytes >>= counted_at (local_at counts)
 
 -- II.23.2.15
 unfoldable pub method_spec_at : RowCounts → Reader (List SigTy)
-method_spec_at counts bytes = do
-  rest ← kind_at 0x0A bytes
-  count ← argument_count_at rest
-  repeated (whole_type_at counts) count.0 count.1
+method_spec_at counts bytes = kind_at 0x0A bytes >>= arguments_at (whole_type_at counts)
 
 -- What a blob holds: the value at its front, or the place of the first byte that can't be read. Bytes after the
 -- value are ignored.

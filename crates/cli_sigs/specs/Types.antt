@@ -12,7 +12,7 @@ use Rattle.cli_sigs.specs.declared.marks.Before.TheVariants as before
 use Rattle.cli_sigs.specs.declared.types.Callee.{Callee}
 use Rattle.cli_sigs.specs.declared.types.Callee.TheVariants as callee
 use Rattle.cli_sigs.specs.Reading.{Answer, Part, ◌>>=◌, refused, repeated}
-use Rattle.cli_sigs.specs.Compressed.{number_at, type_name_at, variable_at, argument_count_at}
+use Rattle.cli_sigs.specs.Compressed.{number_at, type_name_at, variable_at, counted_at, arguments_at}
 use Rattle.cli_sigs.specs.Element.{simple_of, constructor_of}
 use Rattle.cli_sigs.specs.Marks.{marked}
 
@@ -45,7 +45,7 @@ target_at counts one bytes = marked counts before.Type (void_or_type_at one) byt
 
 -- a count and that many numbers
 unfoldable pub numbers_at : List ℕ → Answer (List ℕ)
-numbers_at bytes = number_at bytes >>= λ count. repeated number_at count.0 count.1 >>= λ numbers. Ok numbers.1
+numbers_at bytes = counted_at number_at bytes >>= λ numbers. Ok numbers.1
 
 -- an array's element, and its shape: rank, sizes, lower bounds (II.23.2.13)
 unfoldable pub array_at : Reader SigTy → Reader SigTy
@@ -69,8 +69,7 @@ unfoldable pub generic_inst_at : RowCounts → Reader SigTy → Reader SigTy
 generic_inst_at counts one bytes = do
   value ← is_value_at bytes
   name ← type_name_at counts value.1
-  count ← argument_count_at name.1
-  args ← repeated one count.0 count.1
+  args ← arguments_at one name.1
   Ok (sig.Inst name.0 value.0 args.0, args.1)
 
 abbrev pub has_flag : ℕ → ℕ → Bool
