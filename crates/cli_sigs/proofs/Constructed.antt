@@ -1,18 +1,17 @@
 -- Types with types in them are read as they are spelled.
-use Rattle.std.proofs.Common.{◌≡◌, ℕ, zero, suc, ◌+◌, ◌<◌, ◌≤◌, Bool, true, false, cond, eqb, IsTrue, List, [], ◌∷◌, ◌++◌, length, Option, Some, None, Result, Ok, Err, refl, sym, ap, subst, ◌∙◌, append_assoc, arith, ◌⊎◌, inl, inr}
+use Rattle.std.proofs.Common.{◌≡◌, ℕ, ◌<◌, Bool, true, false, eqb, List, [], ◌∷◌, ◌++◌, length, Some, Ok, refl, ap, subst, ◌∙◌, append_assoc, inl, inr}
 use Rattle.std.proofs.lemmas.Bool.{eqb-true}
 use Rattle.cli_sigs.specs.declared.signature.RowCounts.{RowCounts}
 use Rattle.cli_sigs.specs.declared.signature.SigTy.{SigTy}
 use Rattle.cli_sigs.specs.declared.signature.SigTy.TheVariants as sig
-use Rattle.cli_sigs.specs.declared.signature.SigMethod.{SigMethod}
 use Rattle.cli_sigs.specs.declared.element.Constructor.{Constructor}
 use Rattle.cli_sigs.specs.declared.element.Constructor.TheVariants as constructor
 use Rattle.cli_sigs.specs.declared.marks.Before.TheVariants as before
 use Rattle.cli_sigs.specs.declared.types.Callee.TheVariants as callee
-use Rattle.cli_sigs.specs.Reading.{Answer, Part, ◌>>=◌, refused, repeated}
+use Rattle.cli_sigs.specs.Reading.{Part, ◌>>=◌, refused}
 use Rattle.cli_sigs.specs.Compressed.{number_at, type_name_at, counted_at, arguments_at}
 use Rattle.cli_sigs.specs.Element.{simple_of, constructor_of}
-use Rattle.cli_sigs.specs.Types.{Reader, target_at, marked_type_at, numbers_at, array_at, is_value_at, generic_inst_at, method_at, constructed_at, level_at}
+use Rattle.cli_sigs.specs.Types.{target_at, marked_type_at, numbers_at, array_at, is_value_at, generic_inst_at, method_at, constructed_at, level_at}
 use Rattle.cli_sigs.specs.Grammar.{SpellsNumber, SpellsTypeName, SpellsMarked, SpellsTarget, SpellsCounted, SpellsMethod, SpellsConstructed, ptr, by_ref, sz_array, array, generic_inst, fn_ptr, kind_code}
 use Rattle.cli_sigs.proofs.ReaderLaws.{Begins, Reads, bind_ok, ok_is, joined, headed}
 use Rattle.cli_sigs.proofs.Numbers.{reads_number, reads_type_name}
@@ -72,17 +71,22 @@ module _ (counts : RowCounts) (one : List ℕ → Part SigTy) (Spells : List ℕ
       → array_at one ((element ++ (rank ++ (sizes ++ bounds))) ++ rest) ≡ Ok (sig.Odd 0x14, rest)
   unfolding array_at
   array_again element rank sizes bounds t r ss bs rest e n s b =
-      rw (regroup element rank sizes bounds rest, reads.again element t (rank ++ (sizes ++ (bounds ++ rest))) e, reads_number.again rank r (sizes ++ (bounds ++ rest)) n,
-        numbers_again sizes ss (bounds ++ rest) s, numbers_again bounds bs rest b) refl
+      rw (
+        regroup element rank sizes bounds rest,
+        reads.again element t (rank ++ (sizes ++ (bounds ++ rest))) e,
+        reads_number.again rank r (sizes ++ (bounds ++ rest)) n,
+        numbers_again sizes ss (bounds ++ rest) s,
+        numbers_again bounds bs rest b,
+      ) refl
 
   array_built : (code : ℕ) (more after after2 after3 rest : List ℕ) (t : SigTy) (r : ℕ) → code ≡ 0x14 → Begins Spells more t after → Begins SpellsNumber after r after2 → AreNumbers after2 after3 → AreNumbers after3 rest → Found (code ∷ more) (sig.Odd 0x14, rest)
   array_built code more after after2 after3 rest t r is e n s b = record {
     text = 0x14 ∷ (e.text ++ (n.text ++ (s.begins.text ++ b.begins.text)));
     spelled = array e.text n.text s.begins.text b.begins.text t r s.numbers b.numbers e.spelled n.spelled s.begins.spelled b.begins.spelled;
     front = headed code 0x14 more ((e.text ++ (n.text ++ (s.begins.text ++ b.begins.text))) ++ rest) is
-      (joined more e.text after (n.text ++ (s.begins.text ++ b.begins.text)) rest e.front
-      (joined after n.text after2 (s.begins.text ++ b.begins.text) rest n.front
-      (joined after2 s.begins.text after3 b.begins.text rest s.begins.front b.begins.front)));
+        (joined more e.text after (n.text ++ (s.begins.text ++ b.begins.text)) rest e.front
+        (joined after n.text after2 (s.begins.text ++ b.begins.text) rest n.front
+        (joined after2 s.begins.text after3 b.begins.text rest s.begins.front b.begins.front)));
   }
 
   array_found : (code : ℕ) (more : List ℕ) (p : SigTy × List ℕ) → code ≡ 0x14 → array_at one more ≡ Ok p → Found (code ∷ more) p
@@ -109,7 +113,7 @@ module _ (counts : RowCounts) (one : List ℕ → Part SigTy) (Spells : List ℕ
     text = 0x15 ∷ kind_code value ∷ (name.text ++ args.text);
     spelled = generic_inst value name.text args.text n ts name.spelled some args.spelled;
     front = headed code 0x15 more (kind_code value ∷ ((name.text ++ args.text) ++ rest)) is
-      (v ∙ ap (λ (r : List ℕ). kind_code value ∷ r) (joined after name.text after2 args.text rest name.front args.front));
+        (v ∙ ap (λ (r : List ℕ). kind_code value ∷ r) (joined after name.text after2 args.text rest name.front args.front));
   }
 
   generic_found : (code : ℕ) (more : List ℕ) (p : SigTy × List ℕ) → code ≡ 0x15 → generic_inst_at counts one more ≡ Ok p → Found (code ∷ more) p

@@ -1,7 +1,7 @@
 -- Parts one behind the other are read as they are spelled.
-use Rattle.std.proofs.Common.{◌≡◌, ℕ, zero, suc, ◌+◌, ◌<◌, Bool, true, List, [], ◌∷◌, ◌++◌, length, Result, Ok, Err, refl, sym, ap, subst, ◌∙◌, append_assoc, arith}
+use Rattle.std.proofs.Common.{◌≡◌, ℕ, zero, suc, ◌<◌, List, [], ◌∷◌, ◌++◌, length, Ok, refl, sym, ap, subst, append_assoc}
 use Rattle.std.proofs.lemmas.Bool.{lt-ltb, ltb-true}
-use Rattle.cli_sigs.specs.Reading.{Answer, Part, ◌>>=◌, repeated}
+use Rattle.cli_sigs.specs.Reading.{Part, ◌>>=◌, repeated}
 use Rattle.cli_sigs.specs.Compressed.{number_at, is_some, argument_count_at, counted_at, arguments_at}
 use Rattle.cli_sigs.specs.Grammar.{SpellsNumber, SpellsEach, none, more, SpellsCounted, counted}
 use Rattle.cli_sigs.proofs.ReaderLaws.{Begins, Reads, bind_ok, ok_is, joined}
@@ -42,8 +42,8 @@ module _ {X : Type 0} (one : List ℕ → Part X) (Spells : List ℕ → X → T
   pub reads_counted : Reads (counted_at one) (SpellsCounted Spells)
   reads_counted = record {
     found = λ bytes xs rest e.
-      let a = bind_ok (number_at bytes) (λ count. repeated one count.0 count.1) (xs, rest) e in
-      (behind_count bytes a.0.0 a.0.1 (xs, rest) (reads_number.found bytes a.0.0 a.0.1 a.1) a.2).0;
+        let a = bind_ok (number_at bytes) (λ count. repeated one count.0 count.1) (xs, rest) e in
+        (behind_count bytes a.0.0 a.0.1 (xs, rest) (reads_number.found bytes a.0.0 a.0.1 a.1) a.2).0;
     again = counted_again;
   }
 

@@ -1,20 +1,17 @@
 -- The five kinds of signature are read as they are spelled.
-use Rattle.std.proofs.Common.{◌≡◌, ℕ, ◌<◌, Bool, true, eqb, List, [], ◌∷◌, ◌++◌, length, Result, Ok, Err, refl, sym, ap, subst, ◌∙◌}
+use Rattle.std.proofs.Common.{◌≡◌, ℕ, true, eqb, List, [], ◌∷◌, ◌++◌, length, Result, Ok, Err, refl, ap, subst, ◌∙◌}
 use Rattle.std.specs.Prelude.{IfOk}
 use Rattle.std.proofs.lemmas.Bool.{eqb-true}
 use Rattle.cli_sigs.specs.declared.signature.RowCounts.{RowCounts}
 use Rattle.cli_sigs.specs.declared.signature.SigTy.{SigTy}
-use Rattle.cli_sigs.specs.declared.signature.SigMethod.{SigMethod}
 use Rattle.cli_sigs.specs.declared.fault.SigFault.{SigFault}
-use Rattle.cli_sigs.specs.declared.fault.SigFault.TheVariants as fault
 use Rattle.cli_sigs.specs.declared.marks.Before.TheVariants as before
 use Rattle.cli_sigs.specs.declared.types.Callee.TheVariants as callee
-use Rattle.cli_sigs.specs.Reading.{Answer, Part, ◌>>=◌, refused}
+use Rattle.cli_sigs.specs.Reading.{Part, refused}
 use Rattle.cli_sigs.specs.Compressed.{counted_at, arguments_at}
-use Rattle.cli_sigs.specs.Marks.{marked}
-use Rattle.cli_sigs.specs.Types.{Reader, marked_type_at, method_at}
+use Rattle.cli_sigs.specs.Types.{marked_type_at}
 use Rattle.cli_sigs.specs.Signatures.{whole_type_at, kind_at, field_at, member_at, local_at, locals_at, method_spec_at, placed, Answers}
-use Rattle.cli_sigs.specs.Grammar.{SpellsTypeSpec, SpellsMarked, SpellsCounted, SpellsField, field, SpellsMember, SpellsMethod, SpellsLocals, locals, SpellsMethodSpec, method_spec, Holds}
+use Rattle.cli_sigs.specs.Grammar.{SpellsTypeSpec, SpellsMarked, SpellsCounted, SpellsField, field, SpellsMember, SpellsLocals, locals, SpellsMethodSpec, method_spec, Holds}
 use Rattle.cli_sigs.proofs.ReaderLaws.{Begins, Reads, bind_ok, test_ok, ok_is, headed}
 use Rattle.cli_sigs.proofs.Each.{reads_counted, arguments_again, arguments_found}
 use Rattle.cli_sigs.proofs.Marked.{IsGuarded, reads_marked}

@@ -1,11 +1,10 @@
 -- A type by its first code and the levels that are left.
-use Rattle.std.proofs.Common.{◌≡◌, ℕ, zero, suc, ◌-◌, ◌<◌, ◌≤◌, List, [], ◌∷◌, length, get_or, drop, Option, Some, None, refl, ap, ◌∙◌, arith}
+use Rattle.std.proofs.Common.{◌≡◌, ℕ, zero, suc, ◌-◌, ◌<◌, ◌≤◌, List, [], ◌∷◌, length, get_or, drop, Some, None, refl, arith}
 use Rattle.cli_sigs.specs.declared.element.Simple.{Simple}
 use Rattle.cli_sigs.specs.declared.element.Constructor.{Constructor}
 use Rattle.cli_sigs.specs.declared.signature.RowCounts.{RowCounts}
 use Rattle.cli_sigs.specs.Element.{simple_of, constructor_of}
-use Rattle.cli_sigs.specs.Reading.{refused}
-use Rattle.cli_sigs.specs.Types.{Reader, type_at, level_at, simple_at, constructed_at}
+use Rattle.cli_sigs.specs.Types.{type_at, level_at, simple_at, constructed_at}
 
 pub type_at-last : (counts : RowCounts) (levels : ℕ) (bytes : List ℕ) → levels ≤ 0 → type_at counts levels bytes ≡ level_at counts None bytes
 unfolding type_at

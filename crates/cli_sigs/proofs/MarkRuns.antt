@@ -1,5 +1,5 @@
 -- Marks read one after the other, as a loop reads them.
-use Rattle.std.proofs.Common.{◌≡◌, ℕ, zero, suc, ◌≤◌, ◌<◌, List, [], ◌∷◌, length, Option, Some, None, Ok, Err, refl, sym, ◌∙◌, arith}
+use Rattle.std.proofs.Common.{◌≡◌, ℕ, zero, suc, ◌≤◌, ◌<◌, List, [], ◌∷◌, length, Some, None, Ok, Err, refl, sym, arith}
 use Rattle.cli_sigs.specs.declared.fault.Stop.{Stop}
 use Rattle.cli_sigs.specs.declared.fault.Stop.TheVariants as stop
 use Rattle.cli_sigs.specs.declared.marks.Before.{Before}

@@ -1,15 +1,13 @@
 -- What stands before a type is skipped as it is spelled.
-use Rattle.std.proofs.Common.{◌≡◌, ℕ, zero, suc, ◌+◌, ◌<◌, ◌≤◌, Bool, true, false, ◌||◌, cond, eqb, IsTrue, List, [], ◌∷◌, ◌++◌, length, Option, Some, None, Result, Ok, Err, refl, sym, ap, subst, ◌∙◌, append_assoc, arith, ◌⊎◌, inl, inr, length-append}
+use Rattle.std.proofs.Common.{◌≡◌, ℕ, zero, suc, ◌≤◌, Bool, true, false, eqb, List, [], ◌∷◌, ◌++◌, length, Option, Some, None, Ok, Err, refl, ap, subst, ◌∙◌, append_assoc, arith, ◌⊎◌, inl, inr, length-append}
 use Rattle.std.proofs.lemmas.Bool.{eqb-true}
 use Rattle.cli_sigs.specs.declared.signature.RowCounts.{RowCounts}
 use Rattle.cli_sigs.specs.declared.signature.SigTy.{SigTy}
-use Rattle.cli_sigs.specs.declared.signature.SigTy.TheVariants as sig
 use Rattle.cli_sigs.specs.declared.marks.Before.{Before}
 use Rattle.cli_sigs.specs.declared.marks.Before.TheVariants as before
-use Rattle.cli_sigs.specs.Reading.{Answer, Part, ◌>>=◌, refused}
-use Rattle.cli_sigs.specs.Compressed.{number_at, names_row, modifier_name_at}
+use Rattle.cli_sigs.specs.Reading.{Answer, Part, refused}
+use Rattle.cli_sigs.specs.Compressed.{names_row, modifier_name_at}
 use Rattle.cli_sigs.specs.Marks.{is_modifier, is_pinned, mark_at, go_on, marks_at, past_marks, marked}
-use Rattle.cli_sigs.specs.Types.{void_or_type_at, marked_type_at, target_at, past_sentinel, param_at}
 use Rattle.cli_sigs.specs.Grammar as grammar
 use Rattle.cli_sigs.specs.Grammar.{SpellsNumber, AreMarks, no_marks, modifier, pinned, SpellsMarked, SpellsVoidOr, void, a_type, SpellsParam, param, sentinel, SpellsTarget}
 use Rattle.cli_sigs.proofs.ReaderLaws.{Begins, Reads, bind_ok, ok_is, joined}
@@ -42,9 +40,9 @@ pub record IsGuarded (one : List ℕ → Part SigTy) : Type 0 where
 module _ (one : List ℕ → Part SigTy) (guarded : IsGuarded one) where
   no_modifier : (code : ℕ) (rest : List ℕ) (p : SigTy × List ℕ) → one (code ∷ rest) ≡ Ok p → is_modifier code ≡ true → ⊥
   no_modifier code rest p e h = elim (either (eqb code 0x1F)) [
-      | inl k ↦ let is : code ≡ 0x1F = eqb-true code 0x1F k in clash (one (0x1F ∷ rest)) (length (0x1F ∷ rest)) p (guarded.required rest) (subst (λ (c : ℕ). one (c ∷ rest) ≡ Ok p) is e)
-      | inr k ↦ let is : code ≡ 0x20 = eqb-true code 0x20 (rw k at h) in clash (one (0x20 ∷ rest)) (length (0x20 ∷ rest)) p (guarded.optional rest) (subst (λ (c : ℕ). one (c ∷ rest) ≡ Ok p) is e)
-    ]
+    | inl k ↦ let is : code ≡ 0x1F = eqb-true code 0x1F k in clash (one (0x1F ∷ rest)) (length (0x1F ∷ rest)) p (guarded.required rest) (subst (λ (c : ℕ). one (c ∷ rest) ≡ Ok p) is e)
+    | inr k ↦ let is : code ≡ 0x20 = eqb-true code 0x20 (rw k at h) in clash (one (0x20 ∷ rest)) (length (0x20 ∷ rest)) p (guarded.optional rest) (subst (λ (c : ℕ). one (c ∷ rest) ≡ Ok p) is e)
+  ]
 
   no_pin : (what : Before) (code : ℕ) (rest : List ℕ) (p : SigTy × List ℕ) → one (code ∷ rest) ≡ Ok p → is_pinned what code ≡ true → ⊥
   no_pin before.Type code rest p e h = absurd (cc)
@@ -100,14 +98,14 @@ module _ (counts : RowCounts) where
   mark_found what (code ∷ rest) after e =
       elim (either (is_modifier code)) [
         | inl m ↦
-          let b = bind_ok (modifier_name_at counts rest) (λ name. Ok (Some name.1)) (Some after) (rw m at e) in
-          let n = passing_found (names_row counts) rest b.0.0 b.0.1 b.1 in
-          let after_is : b.0.1 ≡ after = cc (ok_is (Some b.0.1) (Some after) b.2) in
-          record {
-            mark = code ∷ n.0.text;
-            front = ap (λ (r : List ℕ). code ∷ r) (n.0.front ∙ ap (λ (r : List ℕ). n.0.text ++ r) after_is);
-            before_others = λ others are. modifier what code n.0.text others b.0.0 m n.0.spelled n.1 are;
-          }
+            let b = bind_ok (modifier_name_at counts rest) (λ name. Ok (Some name.1)) (Some after) (rw m at e) in
+            let n = passing_found (names_row counts) rest b.0.0 b.0.1 b.1 in
+            let after_is : b.0.1 ≡ after = cc (ok_is (Some b.0.1) (Some after) b.2) in
+            record {
+              mark = code ∷ n.0.text;
+              front = ap (λ (r : List ℕ). code ∷ r) (n.0.front ∙ ap (λ (r : List ℕ). n.0.text ++ r) after_is);
+              before_others = λ others are. modifier what code n.0.text others b.0.0 m n.0.spelled n.1 are;
+            }
         | inr m ↦ elim (either (is_pinned what code)) [
           | inl q ↦ let e1 : done_some rest ≡ Ok (Some after) = rw (m, q) at e in pin_found what code rest after q (cc e1)
           | inr q ↦ absurd (let e1 : done_none ≡ Ok (Some after) = rw (m, q) at e in cc e1)
@@ -151,6 +149,7 @@ module _ (counts : RowCounts) where
             spelled = grammar.marked m.marks x.text t m.are x.spelled;
             front = joined bytes m.marks b.0 x.text rest m.front x.front;
           }
+
       again : (text : List ℕ) (t : SigTy) (rest : List ℕ) → SpellsMarked counts what Spells text t → marked counts what one (text ++ rest) ≡ Ok (t, rest)
       again text t rest (grammar.marked marks inner u are s) =
           let h = reads.again inner t rest s in

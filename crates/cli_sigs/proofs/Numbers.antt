@@ -1,10 +1,10 @@
 -- Numbers are read as they are spelled.
-use Rattle.std.proofs.Common.{◌≡◌, ℕ, zero, suc, ◌+◌, ◌-◌, ◌*◌, ◌%◌, ◌<◌, ◌≤◌, Bool, true, false, not, ◌&&◌, cond, ltb, IsTrue, List, [], ◌∷◌, ◌++◌, length, Result, Ok, Err, refl, sym, ap, subst, ◌∙◌, arith, inl, inr}
-use Rattle.std.proofs.lemmas.Bool.{cases_lt, le-ltb, lt-ltb, ltb-true}
+use Rattle.std.proofs.Common.{◌≡◌, ℕ, ◌+◌, ◌-◌, ◌*◌, ◌<◌, ◌≤◌, Bool, true, cond, List, [], ◌∷◌, ◌++◌, length, Ok, refl, sym, ap, subst, ◌∙◌, arith, inl, inr}
+use Rattle.std.proofs.lemmas.Bool.{cases_lt, le-ltb, lt-ltb}
 use Rattle.std.proofs.lemmas.Bool.{leb-true, le-leb}
 use Rattle.cli_sigs.specs.declared.signature.RowCounts.{RowCounts}
-use Rattle.cli_sigs.specs.Reading.{Answer, Part, ◌>>=◌, refused, passing}
-use Rattle.cli_sigs.specs.Compressed.{number_at, two_bytes_at, four_bytes_at, names_row, names_type, type_name_at, modifier_name_at, is_variable, variable_at, is_some, argument_count_at}
+use Rattle.cli_sigs.specs.Reading.{refused, passing}
+use Rattle.cli_sigs.specs.Compressed.{number_at, two_bytes_at, four_bytes_at, names_type, type_name_at, is_variable, variable_at}
 use Rattle.cli_sigs.specs.Grammar.{SpellsNumber, one_byte, two_bytes, four_bytes, SpellsTypeName, type_name, SpellsVariable, variable}
 use Rattle.cli_sigs.proofs.ReaderLaws.{Begins, Reads, bind_ok, test_ok, ok_is}
 
@@ -87,6 +87,7 @@ reads_type_name counts = record { found = found; again = again }
     found bytes n rest e =
         let p = passing_found (names_type counts) bytes n rest e in
         record { text = p.0.text; spelled = type_name p.0.text n p.0.spelled p.1; front = p.0.front }
+
     again : (text : List ℕ) (n : ℕ) (rest : List ℕ) → SpellsTypeName counts text n → passing (names_type counts) (text ++ rest) (number_at (text ++ rest)) ≡ Ok (n, rest)
     again text n rest (type_name t m s h) = passing_again (names_type counts) text n rest s h
 
@@ -98,5 +99,6 @@ reads_variable = record { found = found; again = again }
     found bytes n rest e =
         let p = passing_found is_variable bytes n rest e in
         record { text = p.0.text; spelled = variable p.0.text n p.0.spelled (leb-true n 65535 p.1); front = p.0.front }
+
     again : (text : List ℕ) (n : ℕ) (rest : List ℕ) → SpellsVariable text n → passing is_variable (text ++ rest) (number_at (text ++ rest)) ≡ Ok (n, rest)
     again text n rest (variable t m s h) = passing_again is_variable text n rest s (le-leb n 65535 h)

@@ -1,5 +1,5 @@
 -- A reader reads a spelling: what it accepts is spelled so, and what is spelled so it accepts.
-use Rattle.std.proofs.Common.{◌≡◌, ℕ, Bool, true, false, cond, List, ◌∷◌, ◌++◌, Result, Ok, Err, refl, sym, ap, ◌∙◌, append_assoc}
+use Rattle.std.proofs.Common.{◌≡◌, ℕ, Bool, true, false, cond, List, ◌∷◌, ◌++◌, Ok, Err, refl, sym, ap, ◌∙◌, append_assoc}
 use Rattle.cli_sigs.specs.Reading.{Answer, Part, ◌>>=◌}
 
 -- the bytes begin with a spelling of x, and rest comes after it

@@ -1,5 +1,5 @@
 -- Types with no types in them are read as they are spelled.
-use Rattle.std.proofs.Common.{◌≡◌, ℕ, zero, suc, ◌+◌, ◌<◌, ◌≤◌, Bool, true, false, cond, eqb, IsTrue, List, [], ◌∷◌, ◌++◌, length, Option, Some, None, Result, Ok, Err, refl, sym, ap, subst, ◌∙◌, arith, ◌⊎◌, inl, inr}
+use Rattle.std.proofs.Common.{◌≡◌, ℕ, true, false, eqb, List, [], ◌∷◌, ◌++◌, Option, Some, Ok, refl, sym, ap, subst, ◌∙◌, inl, inr}
 use Rattle.std.proofs.lemmas.Bool.{eqb-true}
 use Rattle.cli_sigs.specs.declared.signature.RowCounts.{RowCounts}
 use Rattle.cli_sigs.specs.declared.signature.SigTy.{SigTy}
@@ -8,12 +8,11 @@ use Rattle.cli_sigs.specs.declared.element.Simple.{Simple}
 use Rattle.cli_sigs.specs.declared.element.Simple.TheVariants as simple
 use Rattle.cli_sigs.specs.declared.element.Constructor.{Constructor}
 use Rattle.cli_sigs.specs.declared.element.Constructor.TheVariants as constructor
-use Rattle.cli_sigs.specs.Reading.{Answer, Part, ◌>>=◌, refused}
 use Rattle.cli_sigs.specs.Compressed.{type_name_at, variable_at}
 use Rattle.cli_sigs.specs.Element.{is_built_in, simple_of, constructor_of}
-use Rattle.cli_sigs.specs.Types.{Reader, simple_at, coded_at, level_at}
+use Rattle.cli_sigs.specs.Types.{Reader, simple_at, level_at}
 use Rattle.cli_sigs.specs.Grammar.{SpellsSimple, built_in, value_type, class, var, typed_by_ref, mvar}
-use Rattle.cli_sigs.proofs.ReaderLaws.{Begins, Reads, bind_ok, ok_is, headed}
+use Rattle.cli_sigs.proofs.ReaderLaws.{Begins, bind_ok, ok_is, headed}
 use Rattle.cli_sigs.proofs.Numbers.{reads_type_name, reads_variable}
 use Rattle.cli_sigs.proofs.Marked.{either}
 

@@ -1,15 +1,15 @@
 -- Void or a type, and parameters, are read as they are spelled.
-use Rattle.std.proofs.Common.{◌≡◌, ℕ, zero, suc, ◌+◌, ◌<◌, ◌≤◌, Bool, true, false, ◌||◌, cond, eqb, IsTrue, List, [], ◌∷◌, ◌++◌, length, Option, Some, None, Result, Ok, Err, refl, sym, ap, subst, ◌∙◌, append_assoc, arith, ◌⊎◌, inl, inr}
+use Rattle.std.proofs.Common.{◌≡◌, ℕ, false, eqb, List, [], ◌∷◌, ◌++◌, length, Ok, refl, sym, subst, inl, inr}
 use Rattle.std.proofs.lemmas.Bool.{eqb-true}
 use Rattle.cli_sigs.specs.declared.signature.RowCounts.{RowCounts}
 use Rattle.cli_sigs.specs.declared.signature.SigTy.{SigTy}
 use Rattle.cli_sigs.specs.declared.signature.SigTy.TheVariants as sig
 use Rattle.cli_sigs.specs.declared.marks.Before.TheVariants as before
-use Rattle.cli_sigs.specs.Reading.{Answer, Part, ◌>>=◌, refused}
-use Rattle.cli_sigs.specs.Marks.{mark_at, marks_at, past_marks, marked}
+use Rattle.cli_sigs.specs.Reading.{Part, refused}
+use Rattle.cli_sigs.specs.Marks.{mark_at, marks_at}
 use Rattle.cli_sigs.specs.Types.{void_or_type_at, marked_type_at, target_at, past_sentinel, param_at}
 use Rattle.cli_sigs.specs.Grammar.{SpellsMarked, SpellsVoidOr, void, a_type, SpellsParam, param, sentinel, SpellsTarget}
-use Rattle.cli_sigs.proofs.ReaderLaws.{Begins, Reads, bind_ok, ok_is, done, headed}
+use Rattle.cli_sigs.proofs.ReaderLaws.{Begins, Reads, ok_is, done, headed}
 use Rattle.cli_sigs.proofs.Marked.{IsGuarded, is_false, either, clash, reads_marked}
 
 module _ (counts : RowCounts) (one : List ℕ → Part SigTy) (Spells : List ℕ → SigTy → Type 0)
@@ -25,8 +25,8 @@ module _ (counts : RowCounts) (one : List ℕ → Part SigTy) (Spells : List ℕ
   not_void [] p e = e
   not_void (code ∷ rest) p e =
       let other : eqb code 0x01 ≡ false = is_false (eqb code 0x01) (λ h.
-          let is : code ≡ 0x01 = eqb-true code 0x01 h in
-          clash (one (0x01 ∷ rest)) (length (0x01 ∷ rest)) p (no_void rest) (subst (λ (c : ℕ). one (c ∷ rest) ≡ Ok p) is e)) in
+      let is : code ≡ 0x01 = eqb-true code 0x01 h in
+      clash (one (0x01 ∷ rest)) (length (0x01 ∷ rest)) p (no_void rest) (subst (λ (c : ℕ). one (c ∷ rest) ≡ Ok p) is e)) in
       rw other e
 
   type_found : (bytes : List ℕ) (t : SigTy) (rest : List ℕ) → one bytes ≡ Ok (t, rest) → Begins (SpellsVoidOr Spells) bytes t rest
@@ -72,8 +72,8 @@ module _ (counts : RowCounts) (one : List ℕ → Part SigTy) (Spells : List ℕ
   not_sentinel [] p e = refl
   not_sentinel (code ∷ rest) p e =
       let other : eqb code 0x41 ≡ false = is_false (eqb code 0x41) (λ h.
-          let is : code ≡ 0x41 = eqb-true code 0x41 h in
-          clash (marked_type_at counts one (0x41 ∷ rest)) (length (0x41 ∷ rest)) p (no_dots rest) (subst (λ (c : ℕ). marked_type_at counts one (c ∷ rest) ≡ Ok p) is e)) in
+      let is : code ≡ 0x41 = eqb-true code 0x41 h in
+      clash (marked_type_at counts one (0x41 ∷ rest)) (length (0x41 ∷ rest)) p (no_dots rest) (subst (λ (c : ℕ). marked_type_at counts one (c ∷ rest) ≡ Ok p) is e)) in
       rw other refl
 
   param_again : (text : List ℕ) (t : SigTy) (rest : List ℕ) → SpellsParam counts Spells text t → param_at counts one (text ++ rest) ≡ Ok (t, rest)
@@ -95,9 +95,9 @@ module _ (counts : RowCounts) (one : List ℕ → Part SigTy) (Spells : List ℕ
   param_found (code ∷ more) t rest e =
       elim (either (eqb code 0x41)) [
         | inl h ↦
-          let is : code ≡ 0x41 = eqb-true code 0x41 h in
-          let x = reads_marked_type.found more t rest (rw h at e) in
-          record { text = 0x41 ∷ x.text; spelled = sentinel x.text t x.spelled; front = headed code 0x41 more (x.text ++ rest) is x.front }
+            let is : code ≡ 0x41 = eqb-true code 0x41 h in
+            let x = reads_marked_type.found more t rest (rw h at e) in
+            record { text = 0x41 ∷ x.text; spelled = sentinel x.text t x.spelled; front = headed code 0x41 more (x.text ++ rest) is x.front }
         | inr h ↦ plain_found (code ∷ more) t rest (rw h at e)
       ]
 

@@ -1,13 +1,13 @@
 -- Types of any depth are read as they are spelled.
-use Rattle.std.proofs.Common.{◌≡◌, ℕ, zero, suc, List, [], ◌∷◌, ◌++◌, Option, Some, None, Result, Ok, Err, refl, ◌⊎◌, inl, inr}
+use Rattle.std.proofs.Common.{◌≡◌, ℕ, zero, suc, List, [], ◌∷◌, ◌++◌, Option, Some, None, Ok, refl, inl, inr}
 use Rattle.cli_sigs.specs.declared.signature.RowCounts.{RowCounts}
 use Rattle.cli_sigs.specs.declared.signature.SigTy.{SigTy}
 use Rattle.cli_sigs.specs.declared.element.Simple.{Simple}
 use Rattle.cli_sigs.specs.declared.element.Constructor.{Constructor}
-use Rattle.cli_sigs.specs.Reading.{Part, refused}
+use Rattle.cli_sigs.specs.Reading.{refused}
 use Rattle.cli_sigs.specs.Element.{simple_of, constructor_of}
-use Rattle.cli_sigs.specs.Types.{Reader, simple_at, constructed_at, constructor_at, coded_at, level_at, type_at}
-use Rattle.cli_sigs.specs.Grammar.{SpellsSimple, SpellsConstructed, SpellsLevel, SpellsType}
+use Rattle.cli_sigs.specs.Types.{Reader, constructor_at, coded_at, level_at, type_at}
+use Rattle.cli_sigs.specs.Grammar.{SpellsSimple, SpellsLevel, SpellsType}
 use Rattle.cli_sigs.proofs.ReaderLaws.{Begins, Reads}
 use Rattle.cli_sigs.proofs.Marked.{IsGuarded}
 use Rattle.cli_sigs.proofs.Simples.{simple_again, simple_found}

@@ -1,5 +1,5 @@
 -- The five kinds of signature (II.23.2), and what their readers answer.
-use Rattle.std.specs.Prelude.{◌≡◌, ℕ, ◌-◌, Bool, List, [], ◌∷◌, length, Result, Ok, Err, ◌==◌, if◌then◌else◌}
+use Rattle.std.specs.Prelude.{◌≡◌, ℕ, ◌-◌, List, [], ◌∷◌, length, Result, Ok, Err, ◌==◌, if◌then◌else◌}
 use Rattle.cli_sigs.specs.declared.signature.RowCounts.{RowCounts}
 use Rattle.cli_sigs.specs.declared.signature.SigTy.{SigTy}
 use Rattle.cli_sigs.specs.declared.signature.SigMethod.{SigMethod}

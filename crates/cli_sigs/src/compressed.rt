@@ -59,7 +59,10 @@ pub(crate) fn type_name<'a>(counts: &RowCounts, bytes: &'a [u8]) -> Result<(u32,
 
 /// The number of a TypeDef, TypeRef or TypeSpec at the front.
 #[tactic(auto, unfolding(crate::specs::Compressed::modifier_name_at))]
-pub(crate) fn modifier_name<'a>(counts: &RowCounts, bytes: &'a [u8]) -> Result<(u32, &'a [u8]), Stop>
+pub(crate) fn modifier_name<'a>(
+    counts: &RowCounts,
+    bytes: &'a [u8],
+) -> Result<(u32, &'a [u8]), Stop>
     ensures exact { Gives (λ x. (x.0, x.1.now)) result (spec.modifier_name_at counts.now bytes.now) }
     ensures shorter { IfOk result (λ x. length x.1.now < length bytes.now) }
 {

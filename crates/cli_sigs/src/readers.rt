@@ -1,8 +1,11 @@
 //! The five readers.
-ghost use Rattle.std.specs.Prelude.{◌≡◌, ◌<◌, ◌^◌, length};
-ghost use Rattle.cli_sigs.specs.Reading.{Gives};
+ghost use Rattle.std.specs.Prelude.{◌≡◌, ◌<◌, ◌^◌, List, length, IfOk};
+ghost use Rattle.cli_sigs.specs.Reading.{Gives, Part};
 ghost use Rattle.cli_sigs.specs.Signatures as spec;
-ghost use Rattle.cli_sigs.specs.Signatures.{Answers, placed};
+ghost use Rattle.cli_sigs.specs.Signatures.{Answers};
+ghost use Rattle.cli_sigs.specs.Grammar.{Holds, SpellsField, SpellsMember, SpellsLocals, SpellsTypeSpec, SpellsMethodSpec};
+ghost use Rattle.cli_sigs.specs.declared.signature.SigTy.{SigTy};
+ghost use Rattle.cli_sigs.specs.declared.signature.SigMethod.{SigMethod};
 
 use crate::compressed::{argument_count, number};
 use crate::fault::{SigFault, Stop};
@@ -75,6 +78,17 @@ fn method_spec<'a>(
     types(alloc, counts, MOST_LEVELS, count, rest)
 }
 
+/// What was read from the front of the blob, or the fault with its place.
+fn placed<T: Drop>(blob: &[u8], read: Result<(T, &[u8]), Stop>) -> Result<T, SigFault>
+    requires { length blob.now < 2 ^ 32 }
+    ensures { (part : Part T) → Gives (λ x. (x.0, x.1.now)) read.entry part → Answers result (spec.placed blob.now part) }
+{
+    match read {
+        Ok((value, _)) => Ok(value),
+        Err(stop) => Err(stop.in_blob(blob)),
+    }
+}
+
 /// Reads a field's signature (II.23.2.4).
 ///
 /// # Errors
@@ -82,12 +96,14 @@ fn method_spec<'a>(
 /// `Bad` with the first byte that the grammar doesn't allow; bytes after the signature are ignored.
 pub fn read_field(alloc: Global, blob: &[u8], counts: &RowCounts) -> Result<SigTy, SigFault>
     requires { length blob.now < 2 ^ 32 }
-    ensures { Answers result (placed blob.now (spec.field_at counts.now blob.now)) }
+    // The first fault and its place, or the value.
+    ensures exact { Answers result (spec.placed blob.now (spec.field_at counts.now blob.now)) }
+    // What is read is in the grammar.
+    ensures found { IfOk result (λ x. Holds (SpellsField counts.now) blob.now x) }
+    // What is in the grammar is read, unless memory runs out.
+    ensures only { (x : SigTy) → Holds (SpellsField counts.now) blob.now x → Answers result (Ok x) }
 {
-    match field(alloc, counts, blob) {
-        Ok((ty, _)) => Ok(ty),
-        Err(stop) => Err(stop.in_blob(blob)),
-    }
+    placed(blob, field(alloc, counts, blob))
 }
 
 /// Reads a method's signature, of a definition or a reference (II.23.2.1 and II.23.2.2).
@@ -98,12 +114,17 @@ pub fn read_field(alloc: Global, blob: &[u8], counts: &RowCounts) -> Result<SigT
 #[tactic(auto, unfolding(crate::specs::Signatures::member_at, crate::specs::Signatures::whole_type_at))]
 pub fn read_method(alloc: Global, blob: &[u8], counts: &RowCounts) -> Result<SigMethod, SigFault>
     requires { length blob.now < 2 ^ 32 }
-    ensures { Answers result (placed blob.now (spec.member_at counts.now blob.now)) }
+    // The first fault and its place, or the value.
+    ensures exact { Answers result (spec.placed blob.now (spec.member_at counts.now blob.now)) }
+    // What is read is in the grammar.
+    ensures found { IfOk result (λ x. Holds (SpellsMember counts.now) blob.now x) }
+    // What is in the grammar is read, unless memory runs out.
+    ensures only { (x : SigMethod) → Holds (SpellsMember counts.now) blob.now x → Answers result (Ok x) }
 {
-    match method(alloc, counts, MOST_LEVELS, Callee::Member, blob) {
-        Ok((method, _)) => Ok(method),
-        Err(stop) => Err(stop.in_blob(blob)),
-    }
+    placed(
+        blob,
+        method(alloc, counts, MOST_LEVELS, Callee::Member, blob),
+    )
 }
 
 /// Reads the types of a method body's locals (II.23.2.6).
@@ -113,12 +134,14 @@ pub fn read_method(alloc: Global, blob: &[u8], counts: &RowCounts) -> Result<Sig
 /// As [`read_field`].
 pub fn read_locals(alloc: Global, blob: &[u8], counts: &RowCounts) -> Result<SigTyList, SigFault>
     requires { length blob.now < 2 ^ 32 }
-    ensures { Answers result (placed blob.now (spec.locals_at counts.now blob.now)) }
+    // The first fault and its place, or the value.
+    ensures exact { Answers result (spec.placed blob.now (spec.locals_at counts.now blob.now)) }
+    // What is read is in the grammar.
+    ensures found { IfOk result (λ x. Holds (SpellsLocals counts.now) blob.now x) }
+    // What is in the grammar is read, unless memory runs out.
+    ensures only { (x : List SigTy) → Holds (SpellsLocals counts.now) blob.now x → Answers result (Ok x) }
 {
-    match locals(alloc, counts, blob) {
-        Ok((list, _)) => Ok(list),
-        Err(stop) => Err(stop.in_blob(blob)),
-    }
+    placed(blob, locals(alloc, counts, blob))
 }
 
 /// Reads the type that a TypeSpec row names (II.23.2.14).
@@ -129,12 +152,14 @@ pub fn read_locals(alloc: Global, blob: &[u8], counts: &RowCounts) -> Result<Sig
 #[tactic(auto, unfolding(crate::specs::Signatures::whole_type_at))]
 pub fn read_type_spec(alloc: Global, blob: &[u8], counts: &RowCounts) -> Result<SigTy, SigFault>
     requires { length blob.now < 2 ^ 32 }
-    ensures { Answers result (placed blob.now (spec.whole_type_at counts.now blob.now)) }
+    // The first fault and its place, or the value.
+    ensures exact { Answers result (spec.placed blob.now (spec.whole_type_at counts.now blob.now)) }
+    // What is read is in the grammar.
+    ensures found { IfOk result (λ x. Holds (SpellsTypeSpec counts.now) blob.now x) }
+    // What is in the grammar is read, unless memory runs out.
+    ensures only { (x : SigTy) → Holds (SpellsTypeSpec counts.now) blob.now x → Answers result (Ok x) }
 {
-    match type_of(alloc, counts, MOST_LEVELS, blob) {
-        Ok((ty, _)) => Ok(ty),
-        Err(stop) => Err(stop.in_blob(blob)),
-    }
+    placed(blob, type_of(alloc, counts, MOST_LEVELS, blob))
 }
 
 /// Reads the generic arguments that a MethodSpec row gives a method (II.23.2.15).
@@ -148,10 +173,12 @@ pub fn read_method_spec(
     counts: &RowCounts,
 ) -> Result<SigTyList, SigFault>
     requires { length blob.now < 2 ^ 32 }
-    ensures { Answers result (placed blob.now (spec.method_spec_at counts.now blob.now)) }
+    // The first fault and its place, or the value.
+    ensures exact { Answers result (spec.placed blob.now (spec.method_spec_at counts.now blob.now)) }
+    // What is read is in the grammar.
+    ensures found { IfOk result (λ x. Holds (SpellsMethodSpec counts.now) blob.now x) }
+    // What is in the grammar is read, unless memory runs out.
+    ensures only { (x : List SigTy) → Holds (SpellsMethodSpec counts.now) blob.now x → Answers result (Ok x) }
 {
-    match method_spec(alloc, counts, blob) {
-        Ok((list, _)) => Ok(list),
-        Err(stop) => Err(stop.in_blob(blob)),
-    }
+    placed(blob, method_spec(alloc, counts, blob))
 }

@@ -141,7 +141,13 @@ pub(crate) fn type_of<'a>(
         return simple_type(alloc, counts, *code, simple, rest);
     }
     match constructor_of(*code) {
-        Some(constructor) if levels > 0 => constructed(alloc, counts, levels - 1, constructor, rest),
+        Some(constructor) if levels > 0 => constructed(
+            alloc,
+            counts,
+            levels - 1,
+            constructor,
+            rest,
+        ),
         _ => Err(Stop::Left(bytes.len())),
     }
 }

@@ -1,4 +1,3 @@
-use Rattle.std.proofs.Common.{◌≡◌, ◌-◌, arith, refl}
 use Rattle.std.proofs.lemmas.Result.{err_from_is_err_and}
 use Rattle.cli_sigs.specs.Signatures.{local_at, locals_at}
 use Rattle.cli_sigs.proofs.Repeats.{goes_on, fails, is_done}
