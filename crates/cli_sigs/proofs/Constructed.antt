@@ -96,7 +96,7 @@ module _ (counts : RowCounts) (one : List ℕ → Part SigTy) (Spells : List ℕ
       let b = bind_ok (number_at a.0.1) (λ rank. numbers_at rank.1 >>= λ sizes. numbers_at sizes >>= λ bounds. Ok (sig.Odd 0x14, bounds)) p a.2 in
       let c = bind_ok (numbers_at b.0.1) (λ sizes. numbers_at sizes >>= λ bounds. Ok (sig.Odd 0x14, bounds)) p b.2 in
       let d = bind_ok (numbers_at c.0) (λ bounds. Ok (sig.Odd 0x14, bounds)) p c.2 in
-      subst (Found (code ∷ more)) (ok_is (sig.Odd 0x14, d.0) p d.2)
+      subst (Found (code ∷ more)) {x = (sig.Odd 0x14, d.0)} (ok_is (sig.Odd 0x14, d.0) p d.2)
       (array_built code more a.0.1 b.0.1 c.0 d.0 a.0.0 b.0.0 is (reads.found more a.0.0 a.0.1 a.1) (reads_number.found a.0.1 b.0.0 b.0.1 b.1) (numbers_found b.0.1 c.0 c.1) (numbers_found c.0 d.0 d.1))
 
   -- ---- instantiations
@@ -123,7 +123,7 @@ module _ (counts : RowCounts) (one : List ℕ → Part SigTy) (Spells : List ℕ
       let b = bind_ok (type_name_at counts a.0.1) (λ name. arguments_at one name.1 >>= λ args. Ok (sig.Inst name.0 a.0.0 args.0, args.1)) p a.2 in
       let c = bind_ok (arguments_at one b.0.1) (λ args. Ok (sig.Inst b.0.0 a.0.0 args.0, args.1)) p b.2 in
       let args = arguments_found one Spells reads b.0.1 c.0.0 c.0.1 c.1 in
-      subst (Found (code ∷ more)) (ok_is (sig.Inst b.0.0 a.0.0 c.0.0, c.0.1) p c.2)
+      subst (Found (code ∷ more)) {x = (sig.Inst b.0.0 a.0.0 c.0.0, c.0.1)} (ok_is (sig.Inst b.0.0 a.0.0 c.0.0, c.0.1) p c.2)
       (generic_built code more a.0.1 b.0.1 c.0.1 a.0.0 b.0.0 c.0.0 is (is_value_found more a.0 a.1) ((reads_type_name counts).found a.0.1 b.0.0 b.0.1 b.1) args.0 args.1)
 
   -- ---- all of them

@@ -87,7 +87,7 @@ module _ (counts : RowCounts) (one : List ℕ → Part SigTy) (Spells : List ℕ
       let d = bind_ok (target_at counts one c.0.1) (λ ret. repeated (param_at counts one) c.0.0 ret.1 >>= λ params. Ok (method_of a.0.0 b.0.0 ret.0 params.0, params.1)) (m, rest) c.2 in
       let p = bind_ok (repeated (param_at counts one) c.0.0 d.0.1) (λ params. Ok (method_of a.0.0 b.0.0 d.0.0 params.0, params.1)) (m, rest) d.2 in
       let params = each_found (param_at counts one) (SpellsParam counts Spells) param c.0.0 d.0.1 p.0 p.1 in
-      subst (λ (q : SigMethod × List ℕ). Begins (SpellsMethod counts Spells who) bytes q.0 q.1) (ok_is (method_of a.0.0 b.0.0 d.0.0 p.0.0, p.0.1) (m, rest) p.2)
+      subst (λ (q : SigMethod × List ℕ). Begins (SpellsMethod counts Spells who) bytes q.0 q.1) {x = (method_of a.0.0 b.0.0 d.0.0 p.0.0, p.0.1)} (ok_is (method_of a.0.0 b.0.0 d.0.0 p.0.0, p.0.1) (m, rest) p.2)
       (built bytes a.0.1 b.0.1 c.0.1 d.0.1 p.0.1 a.0.0 b.0.0 c.0.0 d.0.0 p.0.0 (flags_found who bytes a.0 a.1) (generic_found a.0.0 a.0.1 b.0 b.1)
       (reads_number.found b.0.1 c.0.0 c.0.1 c.1) (target.found c.0.1 d.0.0 d.0.1 d.1) params.0 params.1)
 

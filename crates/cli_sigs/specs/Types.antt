@@ -29,7 +29,7 @@ simple_at counts code simple.Var rest = variable_at rest >>= λ n. Ok (sig.Var n
 simple_at counts code simple.TypedByRef rest = Ok (sig.Odd code, rest)
 simple_at counts code simple.MVar rest = variable_at rest >>= λ n. Ok (sig.MVar n.0, n.1)
 
--- Below, one reads the types that stand one level deeper.
+-- In what follows, one reads the types that stand one level deeper.
 
 -- a type behind its modifiers
 unfoldable pub marked_type_at : RowCounts → Reader SigTy → Reader SigTy
@@ -56,7 +56,7 @@ array_at one bytes = do
   bounds ← numbers_at sizes
   Ok (sig.Odd 0x14, bounds)
 
--- whether an instantiation is of a value type
+-- the code behind an instantiation's: value type or class
 unfoldable pub is_value_at : Reader Bool
 is_value_at [] = refused []
 is_value_at (code ∷ rest) =
@@ -64,7 +64,7 @@ is_value_at (code ∷ rest) =
     else if code == 0x12 then Ok (false, rest)
     else refused (code ∷ rest)
 
--- the generic type, and its arguments (II.23.2.14 names the same arguments of a method)
+-- whether it is a value type, the generic type, and its arguments
 unfoldable pub generic_inst_at : RowCounts → Reader SigTy → Reader SigTy
 generic_inst_at counts one bytes = do
   value ← is_value_at bytes
