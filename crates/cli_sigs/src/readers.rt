@@ -29,6 +29,7 @@ fn kind(code: u8, bytes: &[u8]) -> Result<&[u8], Stop>
     }
 }
 
+/// A field's type, behind its modifiers.
 #[tactic(auto, unfolding(crate::specs::Signatures::field_at, crate::specs::Signatures::whole_type_at))]
 fn field<'a>(alloc: Global, counts: &RowCounts, bytes: &'a [u8]) -> Result<(SigTy, &'a [u8]), Stop>
     ensures { Gives (λ x. (x.0, x.1.now)) result (spec.field_at counts.now bytes.now) }
@@ -37,7 +38,7 @@ fn field<'a>(alloc: Global, counts: &RowCounts, bytes: &'a [u8]) -> Result<(SigT
     marked_type(alloc, counts, MOST_LEVELS, rest)
 }
 
-/// As many locals as the number says.
+/// A local's type, behind its marks.
 #[tactic(auto, unfolding(crate::specs::Signatures::local_at, crate::specs::Signatures::whole_type_at))]
 fn local<'a>(alloc: Global, counts: &RowCounts, bytes: &'a [u8]) -> Result<(SigTy, &'a [u8]), Stop>
     ensures { Gives (λ x. (x.0, x.1.now)) result (spec.local_at counts.now bytes.now) }
@@ -46,6 +47,7 @@ fn local<'a>(alloc: Global, counts: &RowCounts, bytes: &'a [u8]) -> Result<(SigT
     type_of(alloc, counts, MOST_LEVELS, rest)
 }
 
+/// The types of as many locals as the number says.
 #[tactic(auto, unfolding(crate::specs::Signatures::locals_at))]
 fn locals<'a>(
     alloc: Global,
@@ -65,6 +67,7 @@ fn locals<'a>(
     Ok((list, rest))
 }
 
+/// The generic arguments of a method.
 #[tactic(auto, unfolding(crate::specs::Signatures::method_spec_at, crate::specs::Signatures::whole_type_at))]
 fn method_spec<'a>(
     alloc: Global,
