@@ -1,0 +1,13 @@
+pub mod Levels
+pub mod Repeats
+pub mod MarkRuns
+pub mod ReaderLaws
+pub mod Numbers
+pub mod Each
+pub mod Marked
+pub mod Targets
+pub mod Methods
+pub mod Simples
+pub mod Constructed
+pub mod WholeTypes
+pub mod FiveKinds
