@@ -1,0 +1,9 @@
+pub mod Choices
+pub mod Table
+pub mod Numbers
+pub mod Steps
+pub mod Bytes
+pub mod Takes
+pub mod Coded
+pub mod Instrs
+pub mod Bodies

@@ -1,0 +1,4 @@
+pub mod InstructionSet
+pub mod Reading
+pub mod Decoding
+pub mod Spelling
