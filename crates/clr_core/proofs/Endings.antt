@@ -1,0 +1,191 @@
+-- What follows from how a run ended.
+use Rattle.std.proofs.Common.{◌≡◌, ◌≢◌, ◌↔◌, ◌⊎◌, inl, inr, ℕ, ◌≤◌, true, false, List, [], Option, None, Some, Result, Ok, Err, refl, sym, ap, ◌∙◌, subst, arith, IsSome, unwrap_or}
+use Rattle.std.specs.Option.{option_and_then}
+use Rattle.clr_base.specs.Causes.{Rose}
+use Rattle.clr_base.specs.Content.{then_bytes}
+use Rattle.clr_base.specs.Files.{IsFile}
+use Rattle.clr_base.specs.declared.image_fault.ImageFault.{ImageFault}
+use Rattle.clr_base.specs.declared.image_fault.FaultKind.TheVariants.{NotPe}
+use Rattle.clr_core.specs.Command.{named_file}
+use Rattle.clr_core.specs.Lines.{refused_line}
+use Rattle.clr_core.specs.Names.{names_of}
+use Rattle.clr_core.specs.Ends.{Files, Written, Run, End, Done, Usage, ReadFault, BadImage, WriteFault, Memory, Judged, Happened, Says, Tells, EndsWith, status_of, the_file, told_bytes, told_names, line_of}
+use Rattle.clr_core.specs.declared.status.Status.{Status}
+use Rattle.clr_core.specs.declared.status.Status.TheVariants as status
+
+-- Usage exactly where the words are no command
+no_command : (run : Run) (end : End) (s : Status) → status_of end ≡ s → Happened run end → s ≡ status.Usage → named_file run.words ≡ None
+no_command run Done s is h e = cc
+no_command run Usage s is h e = h.0
+no_command run (ReadFault file) s is h e = cc
+no_command run (BadImage file fault) s is h e = cc
+no_command run WriteFault s is h e = cc
+no_command run Memory s is h e = cc
+
+is_usage : (run : Run) (end : End) (s : Status) → status_of end ≡ s → Happened run end → named_file run.words ≡ None → s ≡ status.Usage
+is_usage run Done s is (text, reports, e) none = cc (reports.judged.named)
+is_usage run Usage s is h none = sym is
+is_usage run (ReadFault file) s is h none = cc (h.0)
+is_usage run (BadImage file fault) s is h none = cc (h.0.named)
+is_usage run WriteFault s is (text, reports, prefix, rose) none = cc (reports.judged.named)
+is_usage run Memory s is h none = let lost : false ≡ true = subst (λ (o : Option (List ℕ)). IsSome o) none h.0 in cc
+
+pub usage : (run : Run) (err : Written) (s : Status) → EndsWith run err s → (s ≡ status.Usage) ↔ (named_file run.words ≡ None)
+usage run err s ends = (no_command run ends.end s ends.is ends.happened, is_usage run ends.end s ends.is ends.happened)
+
+-- A read fault has its cause.
+read_by : (run : Run) (end : End) (s : Status) → status_of end ≡ s → Happened run end → s ≡ status.ReadFault → Rose run.shelf.faults_before run.shelf.faults_now
+read_by run Done s is h e = cc
+read_by run Usage s is h e = cc
+read_by run (ReadFault file) s is h e = h.1
+read_by run (BadImage file fault) s is h e = cc
+read_by run WriteFault s is h e = cc
+read_by run Memory s is h e = cc
+
+pub read_fault : (run : Run) (err : Written) (s : Status) → EndsWith run err s → s ≡ status.ReadFault → Rose run.shelf.faults_before run.shelf.faults_now
+read_fault run err s ends = read_by run ends.end s ends.is ends.happened
+
+-- A write fault has its cause.
+write_by : (run : Run) (end : End) (s : Status) → status_of end ≡ s → Happened run end → s ≡ status.WriteFault → Rose run.out.faults_before run.out.faults_now
+write_by run Done s is h e = cc
+write_by run Usage s is h e = cc
+write_by run (ReadFault file) s is h e = cc
+write_by run (BadImage file fault) s is h e = cc
+write_by run WriteFault s is (text, reports, prefix, rose) e = rose
+write_by run Memory s is h e = cc
+
+pub write_fault : (run : Run) (err : Written) (s : Status) → EndsWith run err s → s ≡ status.WriteFault → Rose run.out.faults_before run.out.faults_now
+write_fault run err s ends = write_by run ends.end s ends.is ends.happened
+
+-- Nothing is written unless the run came to its write.
+out_by : (run : Run) (end : End) (s : Status) → status_of end ≡ s → Happened run end → s ≢ status.Done → s ≢ status.WriteFault → run.out.now ≡ run.out.before
+out_by run Done s is h not_done not_write = absurd (not_done (sym is))
+out_by run Usage s is h not_done not_write = h.1.content
+out_by run (ReadFault file) s is h not_done not_write = h.2.content
+out_by run (BadImage file fault) s is h not_done not_write = h.1.content
+out_by run WriteFault s is h not_done not_write = absurd (not_write (sym is))
+out_by run Memory s is h not_done not_write = h.1.content
+
+pub out_untouched : (run : Run) (err : Written) (s : Status) → EndsWith run err s → s ≢ status.Done → s ≢ status.WriteFault → run.out.now ≡ run.out.before
+out_untouched run err s ends = out_by run ends.end s ends.is ends.happened
+
+-- the line of each status
+any_fault : ImageFault
+any_fault = record { kind = NotPe; place = 0 }
+
+file_of : (words : List (List ℕ)) (file : List ℕ) → named_file words ≡ Some file → file ≡ the_file words
+file_of words file named = sym (ap (λ o. unwrap_or o []) named)
+
+said : (err : Written) (s t : Status) (file file' : List ℕ) (fault : ImageFault) → t ≡ s → file ≡ file' → Says err (line_of t file fault) → Says err (line_of s file' fault)
+said err s t file file' fault is same says = subst (λ v. Says err (line_of v file' fault)) is (subst (λ v. Says err (line_of t v fault)) same says)
+
+line_by : (run : Run) (err : Written) (end : End) (s : Status) → status_of end ≡ s → Happened run end → Tells err end → s ≢ status.Done
+    → (fault : ImageFault) × Says err (line_of s (the_file run.words) fault)
+line_by run err Done s is h tells not_done = absurd (not_done (sym is))
+line_by run err Usage s is h tells not_done = (any_fault, said err s status.Usage (the_file run.words) (the_file run.words) any_fault is refl tells)
+line_by run err (ReadFault file) s is h tells not_done = (any_fault, said err s status.ReadFault file (the_file run.words) any_fault is (file_of run.words file h.0) tells)
+line_by run err (BadImage file fault) s is h tells not_done = (fault, said err s status.BadImage file (the_file run.words) fault is (file_of run.words file h.0.named) tells)
+line_by run err WriteFault s is h tells not_done = (any_fault, said err s status.WriteFault (the_file run.words) (the_file run.words) any_fault is refl tells)
+line_by run err Memory s is h tells not_done = (any_fault, said err s status.Memory (the_file run.words) (the_file run.words) any_fault is refl tells)
+
+pub line : (run : Run) (err : Written) (s : Status) → EndsWith run err s → s ≢ status.Done → (fault : ImageFault) × Says err (line_of s (the_file run.words) fault)
+line run err s ends = line_by run err ends.end s ends.is ends.happened ends.line
+
+-- At Done nothing is said.
+err_by : (err : Written) (end : End) (s : Status) → status_of end ≡ s → Tells err end → s ≡ status.Done → err.now ≡ err.before
+err_by err Done s is tells e = tells.content
+err_by err Usage s is tells e = cc
+err_by err (ReadFault file) s is tells e = cc
+err_by err (BadImage file fault) s is tells e = cc
+err_by err WriteFault s is tells e = cc
+err_by err Memory s is tells e = cc
+
+pub err_untouched : (run : Run) (err : Written) (s : Status) → EndsWith run err s → s ≡ status.Done → err.now ≡ err.before
+err_untouched run err s ends = err_by err ends.end s ends.is ends.line
+
+counts_by : (err : Written) (end : End) → Tells err end → err.faults_before ≤ err.faults_now
+counts_by err Done tells = omega (arith, tells.faults)
+counts_by err Usage tells = tells.later
+counts_by err (ReadFault file) tells = tells.later
+counts_by err (BadImage file fault) tells = tells.later
+counts_by err WriteFault tells = tells.later
+counts_by err Memory tells = tells.later
+
+pub err_counts : (run : Run) (err : Written) (s : Status) → EndsWith run err s → err.faults_before ≤ err.faults_now
+err_counts run err s ends = counts_by err ends.end ends.line
+
+-- The bytes that were judged are the ones that the shelf tells.
+told : (files : Files) (words : List (List ℕ)) (file judged bytes : List ℕ) → named_file words ≡ Some file → IsFile files file judged → told_bytes files words ≡ Some bytes → judged ≡ bytes
+told None words file judged bytes named is e = cc
+told (Some files) words file judged bytes named is e = let found : option_and_then files (named_file words) ≡ files file = ap (option_and_then files) named in cc
+
+told_answer : (run : Run) (file bytes : List ℕ) (answer : Result (List ℕ) ImageFault) → Judged run file answer → told_bytes run.shelf.before run.words ≡ Some bytes → told_names run.words bytes ≡ answer
+told_answer run file bytes answer judged e =
+    let same : judged.bytes ≡ bytes = told run.shelf.before run.words file judged.bytes bytes judged.named judged.told e in
+    sym (ap (λ f. names_of f bytes) (file_of run.words file judged.named)) ∙ sym (ap (names_of file) same) ∙ judged.answers
+
+-- A file that is refused has its line.
+bad_by : (run : Run) (err : Written) (end : End) (s : Status) (bytes : List ℕ) → status_of end ≡ s → Happened run end → Tells err end → told_bytes run.shelf.before run.words ≡ Some bytes → s ≡ status.BadImage
+    → (fault : ImageFault) × (told_names run.words bytes ≡ Err fault) × Says err (refused_line (the_file run.words) fault)
+bad_by run err Done s bytes is h tells e b = cc
+bad_by run err Usage s bytes is h tells e b = cc
+bad_by run err (ReadFault file) s bytes is h tells e b = cc
+bad_by run err (BadImage file fault) s bytes is h tells e b =
+    (fault, told_answer run file bytes (Err fault) h.0 e, subst (λ f. Says err (refused_line f fault)) (file_of run.words file h.0.named) tells)
+bad_by run err WriteFault s bytes is h tells e b = cc
+bad_by run err Memory s bytes is h tells e b = cc
+
+pub bad_image : (run : Run) (err : Written) (s : Status) → EndsWith run err s → (bytes : List ℕ) → told_bytes run.shelf.before run.words ≡ Some bytes → s ≡ status.BadImage
+    → (fault : ImageFault) × (told_names run.words bytes ≡ Err fault) × Says err (refused_line (the_file run.words) fault)
+bad_image run err s ends bytes = bad_by run err ends.end s bytes ends.is ends.happened ends.line
+
+-- A file with a fault is refused.
+has_command : (files : Files) (words : List (List ℕ)) (bytes : List ℕ) → told_bytes files words ≡ Some bytes → named_file words ≢ None
+has_command None words bytes e none = cc
+has_command (Some files) words bytes e none = let lost : option_and_then files (named_file words) ≡ None = ap (option_and_then files) none in cc
+
+refused_by : (run : Run) (end : End) (s : Status) (bytes : List ℕ) (fault : ImageFault) → status_of end ≡ s → Happened run end
+    → told_bytes run.shelf.before run.words ≡ Some bytes → told_names run.words bytes ≡ Err fault → ¬ (Rose run.shelf.faults_before run.shelf.faults_now)
+    → (s ≡ status.BadImage) ⊎ (s ≡ status.Memory)
+refused_by run Done s bytes fault is (text, reports, written) e bad calm = let good = told_answer run reports.file bytes (Ok text) reports.judged e in cc
+refused_by run Usage s bytes fault is h e bad calm = absurd (has_command run.shelf.before run.words bytes e h.0)
+refused_by run (ReadFault file) s bytes fault is h e bad calm = absurd (calm h.1)
+refused_by run (BadImage file other) s bytes fault is h e bad calm = inl (sym is)
+refused_by run WriteFault s bytes fault is (text, reports, prefix, rose) e bad calm = let good = told_answer run reports.file bytes (Ok text) reports.judged e in cc
+refused_by run Memory s bytes fault is h e bad calm = inr (sym is)
+
+pub refused : (run : Run) (err : Written) (s : Status) → EndsWith run err s → (bytes : List ℕ) (fault : ImageFault)
+    → told_bytes run.shelf.before run.words ≡ Some bytes → told_names run.words bytes ≡ Err fault → ¬ (Rose run.shelf.faults_before run.shelf.faults_now)
+    → (s ≡ status.BadImage) ⊎ (s ≡ status.Memory)
+refused run err s ends bytes fault = refused_by run ends.end s bytes fault ends.is ends.happened
+
+-- A file that passes has its text.
+done_by : (run : Run) (end : End) (s : Status) (bytes : List ℕ) → status_of end ≡ s → Happened run end → told_bytes run.shelf.before run.words ≡ Some bytes → s ≡ status.Done
+    → (text : List ℕ) × (told_names run.words bytes ≡ Ok text) × (run.out.now ≡ then_bytes run.out.before text)
+done_by run Done s bytes is (text, reports, written) e d = (text, told_answer run reports.file bytes (Ok text) reports.judged e, written)
+done_by run Usage s bytes is h e d = cc
+done_by run (ReadFault file) s bytes is h e d = cc
+done_by run (BadImage file fault) s bytes is h e d = cc
+done_by run WriteFault s bytes is h e d = cc
+done_by run Memory s bytes is h e d = cc
+
+pub done : (run : Run) (err : Written) (s : Status) → EndsWith run err s → (bytes : List ℕ) → told_bytes run.shelf.before run.words ≡ Some bytes → s ≡ status.Done
+    → (text : List ℕ) × (told_names run.words bytes ≡ Ok text) × (run.out.now ≡ then_bytes run.out.before text)
+done run err s ends bytes = done_by run ends.end s bytes ends.is ends.happened
+
+complete_by : (run : Run) (end : End) (s : Status) (bytes text : List ℕ) → status_of end ≡ s → Happened run end
+    → told_bytes run.shelf.before run.words ≡ Some bytes → told_names run.words bytes ≡ Ok text
+    → ¬ (Rose run.shelf.faults_before run.shelf.faults_now) → ¬ (Rose run.out.faults_before run.out.faults_now)
+    → (s ≡ status.Done) ⊎ (s ≡ status.Memory)
+complete_by run Done s bytes text is h e good calm quiet = inl (sym is)
+complete_by run Usage s bytes text is h e good calm quiet = absurd (has_command run.shelf.before run.words bytes e h.0)
+complete_by run (ReadFault file) s bytes text is h e good calm quiet = absurd (calm h.1)
+complete_by run (BadImage file fault) s bytes text is h e good calm quiet = let bad = told_answer run file bytes (Err fault) h.0 e in cc
+complete_by run WriteFault s bytes text is (t, reports, prefix, rose) e good calm quiet = absurd (quiet rose)
+complete_by run Memory s bytes text is h e good calm quiet = inr (sym is)
+
+pub complete : (run : Run) (err : Written) (s : Status) → EndsWith run err s → (bytes text : List ℕ)
+    → told_bytes run.shelf.before run.words ≡ Some bytes → told_names run.words bytes ≡ Ok text
+    → ¬ (Rose run.shelf.faults_before run.shelf.faults_now) → ¬ (Rose run.out.faults_before run.out.faults_now)
+    → (s ≡ status.Done) ⊎ (s ≡ status.Memory)
+complete run err s ends bytes text = complete_by run ends.end s bytes text ends.is ends.happened

@@ -1,0 +1,4 @@
+pub mod Endings
+pub mod Inside
+pub mod Listing
+pub mod Passing

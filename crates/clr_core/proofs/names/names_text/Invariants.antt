@@ -1,0 +1,7 @@
+use Rattle.std.proofs.Common.{◌≡◌, ◌++◌, codes}
+use Rattle.std.specs.List.{flat_map, range_with_len}
+use Rattle.clr_core.specs.Names.{type_line}
+use Rattle.clr_core.proofs.names.names_text.Given as goal
+
+abbrev pub invariant-loop-row : goal.invariant-loop-row
+invariant-loop-row l = l.text ≡ l.file ++ codes "\n" ++ flat_map (type_line l.tables) (range_with_len 1 l.row)

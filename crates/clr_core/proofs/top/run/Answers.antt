@@ -1,0 +1,47 @@
+use Rattle.std.proofs.Common.{sym, refl, ◌∙◌}
+use Rattle.clr_core.proofs.Inside.{answers_fault, answers_text}
+use Rattle.clr_core.proofs.top.run.Goals as goal
+
+pub returns-in-Err-clause-happened : goal.returns-in-Err-clause-happened
+returns-in-Err-clause-happened g c = (
+  record {
+    named = sym c.in-Some.ensures;
+    bytes = c.in-Ok.bytes.items;
+    told = c.in-Ok.ensures.bytes;
+    answers = answers_fault c.in-Some.file.now c.in-Ok.bytes.items _ c.in-Err.fault c.deref.ensures.value c.in-Err.ensures.exact;
+  },
+  record { content = refl; faults = refl },
+)
+
+pub returns-in-Ok-put_all-clause-happened : goal.returns-in-Ok-put_all-clause-happened
+returns-in-Ok-put_all-clause-happened g c = (
+  c.as_bytes.result.now,
+  record {
+    file = c.in-Some.file.now;
+    judged = record {
+      named = sym c.in-Some.ensures;
+      bytes = c.in-Ok.bytes.items;
+      told = c.in-Ok.ensures.bytes;
+      answers = answers_text c.in-Some.file.now c.in-Ok.bytes.items _ _ c.in-Ok-read_image.tables c.deref.ensures.value c.in-Ok-read_image.ensures.exact
+          (c.as_bytes.ensures.value ∙ c.as_str.ensures ∙ c.in-Ok-names_text.ensures);
+    };
+  },
+  c.in-Ok-put_all.ensures.text,
+)
+
+pub returns-clause-happened : goal.returns-clause-happened
+returns-clause-happened g c = (
+  c.as_bytes.result.now,
+  record {
+    file = c.in-Some.file.now;
+    judged = record {
+      named = sym c.in-Some.ensures;
+      bytes = c.in-Ok.bytes.items;
+      told = c.in-Ok.ensures.bytes;
+      answers = answers_text c.in-Some.file.now c.in-Ok.bytes.items _ _ c.in-Ok-read_image.tables c.deref.ensures.value c.in-Ok-read_image.ensures.exact
+          (c.as_bytes.ensures.value ∙ c.as_str.ensures ∙ c.in-Ok-names_text.ensures);
+    };
+  },
+  c.in-Err-put_all.ensures.text,
+  c.in-Err-put_all.ensures.cause.failed,
+)

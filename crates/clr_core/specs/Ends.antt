@@ -1,0 +1,149 @@
+-- How a run ends, and what it has then done outside.
+use Rattle.std.specs.Prelude.{◌≡◌, ◌⊎◌, ℕ, ◌≤◌, List, [], Option, None, Some, Result, Ok, Err, IsSome, unwrap_or}
+use Rattle.std.specs.Option.{option_and_then}
+use Rattle.clr_base.specs.Causes.{Rose}
+use Rattle.clr_base.specs.Content.{then_bytes, AppendsPrefix}
+use Rattle.clr_base.specs.Files.{IsFile}
+use Rattle.clr_base.specs.declared.image_fault.ImageFault.{ImageFault}
+use Rattle.clr_core.specs.Command.{named_file}
+use Rattle.clr_core.specs.Lines.{usage_line, unread_line, refused_line, unwritten_line, memory_line}
+use Rattle.clr_core.specs.Names.{names_of}
+use Rattle.clr_core.specs.declared.status.Stop.{Stop}
+use Rattle.clr_core.specs.declared.status.Stop.TheVariants as stop
+use Rattle.clr_core.specs.declared.status.Status.{Status}
+use Rattle.clr_core.specs.declared.status.Status.TheVariants as status
+
+-- a shelf's files, where it tells them: the bytes of each by its name
+abbrev pub Files : Type 0
+Files = Option (List ℕ → Option (List ℕ))
+
+-- a shelf before a run and after it: its files, and its count of faults
+pub record Shelved : Type 0 where
+  pub before : Files
+  pub now : Files
+  pub faults_before : ℕ
+  pub faults_now : ℕ
+
+-- a sink before a run and after it: what it holds, where it tells it, and its count of faults
+pub record Written : Type 0 where
+  pub before : Option (List ℕ)
+  pub now : Option (List ℕ)
+  pub faults_before : ℕ
+  pub faults_now : ℕ
+
+-- a shelf by what it tells, as a call found it and as it left it
+abbrev pub shelved : {S : Type 0} → (S → Files) → (S → ℕ) → S → S → Shelved
+shelved files faults old new = record { before = files old; now = files new; faults_before = faults old; faults_now = faults new }
+
+-- the same of a sink
+abbrev pub written : {S : Type 0} → (S → Option (List ℕ)) → (S → ℕ) → S → S → Written
+written content faults old new = record { before = content old; now = content new; faults_before = faults old; faults_now = faults new }
+
+-- what a run was given, and what it did outside
+pub record Run : Type 0 where
+  pub words : List (List ℕ)
+  pub shelf : Shelved
+  pub out : Written
+
+-- how it ends
+pub data End : Type 0 where
+  Done : End
+  Usage : End
+  ReadFault : (file : List ℕ) → End
+  BadImage : (file : List ℕ) (fault : ImageFault) → End
+  WriteFault : End
+  Memory : End
+
+-- The file of the command was fetched, and this came of its bytes: the text that is written of it, or its first fault.
+pub record Judged (run : Run) (file : List ℕ) (answer : Result (List ℕ) ImageFault) : Type 0 where
+  pub named : named_file run.words ≡ Some file
+  pub bytes : List ℕ
+  pub told : IsFile run.shelf.before file bytes
+  pub answers : names_of file bytes ≡ answer
+
+-- nothing was written, and nothing failed
+pub record IsUntouched (sink : Written) : Type 0 where
+  pub content : sink.now ≡ sink.before
+  pub faults : sink.faults_now ≡ sink.faults_before
+
+-- the text of a run that comes to its write
+pub record Reports (run : Run) (text : List ℕ) : Type 0 where
+  pub file : List ℕ
+  pub judged : Judged run file (Ok text)
+
+abbrev pub Happened : Run → End → Type 0
+Happened run Done = (text : List ℕ) × Reports run text × (run.out.now ≡ then_bytes run.out.before text)
+Happened run Usage = (named_file run.words ≡ None) × IsUntouched run.out × (run.shelf.faults_now ≡ run.shelf.faults_before)
+Happened run (ReadFault file) = (named_file run.words ≡ Some file) × Rose run.shelf.faults_before run.shelf.faults_now × IsUntouched run.out
+Happened run (BadImage file fault) = Judged run file (Err fault) × IsUntouched run.out
+Happened run WriteFault = (text : List ℕ) × Reports run text × AppendsPrefix run.out.before run.out.now text × Rose run.out.faults_before run.out.faults_now
+Happened run Memory = IsSome (named_file run.words) × IsUntouched run.out
+
+-- The files stay as they were, and no count of faults falls.
+pub record Keeps (shelf : Shelved) (sink : Written) : Type 0 where
+  pub files : shelf.now ≡ shelf.before
+  pub reads : shelf.faults_before ≤ shelf.faults_now
+  pub writes : sink.faults_before ≤ sink.faults_now
+
+-- what the code's answers stand for
+abbrev pub end_of_stop : Stop → End
+end_of_stop stop.Usage = Usage
+end_of_stop (stop.ReadFault file) = ReadFault file.now
+end_of_stop (stop.BadImage file fault) = BadImage file.now fault
+end_of_stop stop.WriteFault = WriteFault
+end_of_stop stop.Memory = Memory
+
+abbrev pub end_of : Result (Unit {0}) Stop → End
+end_of (Ok done) = Done
+end_of (Err reason) = end_of_stop reason
+
+abbrev pub status_of : End → Status
+status_of Done = status.Done
+status_of Usage = status.Usage
+status_of (ReadFault file) = status.ReadFault
+status_of (BadImage file fault) = status.BadImage
+status_of WriteFault = status.WriteFault
+status_of Memory = status.Memory
+
+-- The line is appended to what the other sink holds, or a prefix of it where that sink failed. No count falls.
+pub record Says (err : Written) (line : List ℕ) : Type 0 where
+  pub appends : (err.now ≡ then_bytes err.before line) ⊎ (AppendsPrefix err.before err.now line × Rose err.faults_before err.faults_now)
+  pub later : err.faults_before ≤ err.faults_now
+
+abbrev pub Tells : Written → End → Type 0
+Tells err Done = IsUntouched err
+Tells err Usage = Says err usage_line
+Tells err (ReadFault file) = Says err (unread_line file)
+Tells err (BadImage file fault) = Says err (refused_line file fault)
+Tells err WriteFault = Says err unwritten_line
+Tells err Memory = Says err memory_line
+
+-- A run ends in one of these ways, with its status and its line.
+pub record EndsWith (run : Run) (err : Written) (reached : Status) : Type 0 where
+  pub end : End
+  pub is : status_of end ≡ reached
+  pub happened : Happened run end
+  pub line : Tells err end
+  pub keeps : Keeps run.shelf run.out
+
+-- the file of the command
+abbrev pub the_file : List (List ℕ) → List ℕ
+the_file words = unwrap_or (named_file words) []
+
+-- the bytes of the command's file, where the shelf tells them
+abbrev pub told_bytes : Files → List (List ℕ) → Option (List ℕ)
+told_bytes None words = None
+told_bytes (Some files) words = option_and_then files (named_file words)
+
+-- what `names` answers of them: its text, or the first fault
+abbrev pub told_names : List (List ℕ) → List ℕ → Result (List ℕ) ImageFault
+told_names words bytes = names_of (the_file words) bytes
+
+-- the line of a status, of the command's file and its fault
+abbrev pub line_of : Status → List ℕ → ImageFault → List ℕ
+line_of status.Done file fault = []
+line_of status.Usage file fault = usage_line
+line_of status.ReadFault file fault = unread_line file
+line_of status.WriteFault file fault = unwritten_line
+line_of status.BadImage file fault = refused_line file fault
+line_of status.Memory file fault = memory_line

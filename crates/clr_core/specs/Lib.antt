@@ -1,0 +1,6 @@
+pub mod Command
+pub mod Ends
+pub mod Image
+pub mod Lines
+pub mod Names
+pub mod Rows

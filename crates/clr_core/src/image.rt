@@ -1,0 +1,30 @@
+//! A whole file.
+ghost use Rattle.std.specs.Prelude.{◌≡◌, ◌+◌, ◌≤◌, length, slice_range, IfOk};
+ghost use Rattle.clr_core.specs.Image.{image_of};
+ghost use Rattle.clr_core.specs.Rows.{ArePassed};
+
+use crate::rows::check_rows;
+use cli_tables::Tables;
+use clr_base::ImageFault;
+use pe_image::{Places, metadata};
+
+/// The bytes of the metadata.
+fn metadata_part(bytes: &[u8], places: Places) -> &[u8]
+    requires { places.meta_start + places.meta_len ≤ length bytes.now }
+    ensures { result.now ≡ slice_range bytes.now places.meta_start (places.meta_start + places.meta_len) }
+{
+    let start = places.meta_start as usize;
+    let end = start + places.meta_len as usize;
+    &bytes[start..end]
+}
+
+/// The metadata of a file that passes all its checks, or the first fault. Takes no memory.
+pub fn read_image(bytes: &[u8]) -> Result<Tables<'_>, ImageFault>
+    ensures exact { result ≡ image_of bytes.now }
+    ensures rows { IfOk result (λ m. ArePassed m) }
+{
+    let places = metadata(bytes)?;
+    let tables = Tables::read(metadata_part(bytes, places))?;
+    check_rows(&tables)?;
+    Ok(tables)
+}
