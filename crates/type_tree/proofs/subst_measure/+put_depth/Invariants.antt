@@ -1,0 +1,8 @@
+use Rattle.std.proofs.Common.{◌≡◌, min, max, drop}
+use Rattle.type_tree.specs.SubstMeasure as spec
+use Rattle.type_tree.proofs.subst_measure.+put_depth.Given as goal
+
+abbrev pub invariant-put_depth_of_all-loop-t : goal.invariant-put_depth_of_all-loop-t
+invariant-put_depth_of_all-loop-t l =
+    max l.most (min (spec.put_depth_of_all l.types l.methods (drop l.t-index l.all)) 18446744073709551615)
+    ≡ min (spec.put_depth_of_all l.types l.methods l.all) 18446744073709551615
