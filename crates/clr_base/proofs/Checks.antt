@@ -1,5 +1,5 @@
 -- A list of checks in two parts: where a check of the first part fails, it decides. Else the second part does.
-use Rattle.std.proofs.Common.{◌≡◌, ℕ, zero, suc, ◌+◌, ◌<◌, ◌⊎◌, Bool, true, false, cond, List, [], ◌∷◌, ◌++◌, Result, Ok, Err, refl, ◌∙◌, inl, inr, arith, add-one, subst}
+use Rattle.std.proofs.Common.{◌≡◌, ℕ, zero, suc, ◌+◌, ◌<◌, ◌⊎◌, Bool, true, false, cond, List, [], ◌∷◌, ◌++◌, length, Result, Ok, Err, refl, ◌∙◌, inl, inr, arith, add-one, subst, get_or}
 use Rattle.clr_base.specs.declared.image_fault.ImageFault.{ImageFault}
 use Rattle.clr_base.specs.Checks.{Check, outcome, first_fault, after, each}
 
@@ -74,3 +74,17 @@ outcome_append (c ∷ cs) b x = append_step c.passes c.fault (first_fault cs) (o
 
 pub first_fault_append : (a b : List Check) → first_fault (a ++ b) ≡ after (first_fault a) (first_fault b)
 first_fault_append a b = outcome_append a b (tt {0})
+
+here : {X : Type 0} (passes : Bool) (fault : ImageFault) (r : Result X ImageFault) (z : X) → cond passes r (Err fault) ≡ Ok z → passes ≡ true
+here true fault r z e = refl
+here false fault r z e = cc
+
+behind : {X : Type 0} (passes : Bool) (fault : ImageFault) (r : Result X ImageFault) (z : X) → cond passes r (Err fault) ≡ Ok z → r ≡ Ok z
+behind true fault r z e = e
+behind false fault r z e = cc
+
+-- where all checks pass, each of them does
+pub passes_at : {X : Type 0} (cs : List Check) (i : ℕ) (d : Check) (x z : X) → i < length cs → outcome cs x ≡ Ok z → (get_or cs i d).passes ≡ true
+passes_at [] i d x z within e = absurd (omega arith)
+passes_at (c ∷ cs) zero d x z within e = here c.passes c.fault (outcome cs x) z e
+passes_at (c ∷ cs) (suc i) d x z within e = passes_at cs i d x z (omega arith) (behind c.passes c.fault (outcome cs x) z e)

@@ -2,8 +2,8 @@
 
 /// It is told of each event of a job, and returns. No answer of the program depends on it.
 pub trait Gate {
-    /// Comes after each answered load of job `job`, with the answer's number in the job from 0. The number
-    /// stays at the greatest `u64` once it is there.
+    /// Comes after each answered `load` or `dict` of job `job`, with the answer's number in the job from 0. The
+    /// number stays at the greatest `u64` once it is there.
     fn step(&self, job: u64, event: u64);
 }
 

@@ -14,7 +14,7 @@ pub enum FaultKind {
     BadRoot = 4,
     /// A stream header (II.24.2.2) is cut, doubled, or of a kind that isn't read.
     BadStreams = 5,
-    /// The `#~` stream (II.24.2.6) is cut or has tables that aren't known.
+    /// The `#~` stream (II.24.2.6) is cut, has tables that aren't known, or one of more than 16,777,215 rows.
     BadTables = 6,
     /// A column's index names nothing.
     BadIndex = 7,

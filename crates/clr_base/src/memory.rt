@@ -53,10 +53,11 @@ impl Shelf for MemShelf {
 
     fn fetch(&mut self, alloc: Global, name: &str) -> Result<Vec<u8>, FetchFault>
         ensures bytes { IfOk result (λ bytes. held self.old.files.items name.now ≡ Some bytes.items) }
-        ensures kept { self.new.files.items ≡ self.old.files.items }
+        ensures kept { (self.new.files.items ≡ self.old.files.items) × (self.new.failing.items ≡ self.old.failing.items) }
         ensures cause { FetchHasCause self.old.fault_count self.new.fault_count result }
         ensures marked { Contains self.old.failing.items self.old.calls → IsErrOf result FetchFault.Failed }
         ensures missing { held self.old.files.items name.now ≡ None → IsErrOf result FetchFault.Failed }
+        ensures only { IsErrOf result FetchFault.Failed → Contains self.old.failing.items self.old.calls ⊎ (held self.old.files.items name.now ≡ None) }
         ensures faultless { OnOk result (self.new.fault_count ≡ self.old.fault_count) }
         ensures counts { self.new.calls ≡ counted self.old.calls }
     {
@@ -125,6 +126,7 @@ impl Sink for MemSink {
     fn put(&mut self, piece: &[u8]) -> Result<usize, Failed>
         ensures taken { Takes (Some self.old.bytes.items) (Some self.new.bytes.items) result piece.now }
         ensures cause { HasCause self.old.fault_count self.new.fault_count result }
+        ensures faultless { OnOk result (self.new.fault_count ≡ self.old.fault_count) }
         ensures marked { Contains self.old.failing.items self.old.calls → IsErr result }
         ensures full { vec_len self.old.bytes ≡ self.old.capacity → IsErr result }
         ensures only { IsErr result → Contains self.old.failing.items self.old.calls ⊎ (vec_len self.old.bytes ≡ self.old.capacity) }

@@ -1,5 +1,5 @@
 //! Real files, and any writer: the trusted edge. They don't tell what they hold.
-ghost use Rattle.std.specs.Prelude.{None};
+ghost use Rattle.std.specs.Prelude.{◌≡◌, None};
 
 use crate::outside::{Failed, FetchFault, Shelf, Sink};
 use std::alloc::Global;
@@ -19,7 +19,10 @@ pub struct FileShelf<'a, R: Files> {
 }
 
 impl<'a, R: Files> FileShelf<'a, R> {
-    pub fn new(files: &'a R) -> FileShelf<'a, R> {
+    /// A shelf that hasn't failed.
+    pub fn new(files: &'a R) -> FileShelf<'a, R>
+        ensures { result.fault_count ≡ 0 }
+    {
         FileShelf {
             files,
             fault_count: 0,
@@ -71,7 +74,10 @@ pub struct StreamSink<W: Write> {
 }
 
 impl<W: Write> StreamSink<W> {
-    pub fn new(writer: W) -> StreamSink<W> {
+    /// A sink that hasn't failed.
+    pub fn new(writer: W) -> StreamSink<W>
+        ensures { (result.writer ≡ writer) × (result.fault_count ≡ 0) }
+    {
         StreamSink {
             writer,
             fault_count: 0,

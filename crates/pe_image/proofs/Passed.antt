@@ -4,24 +4,11 @@ use Rattle.std.proofs.lemmas.Bool.{leb-true}
 use Rattle.clr_base.specs.declared.image_fault.ImageFault.{ImageFault}
 use Rattle.clr_base.specs.declared.image_fault.FaultKind.TheVariants.{NotPe}
 use Rattle.clr_base.specs.Checks.{Check, outcome}
-use Rattle.clr_base.proofs.Checks.{outcome_value}
+use Rattle.clr_base.proofs.Checks.{outcome_value, passes_at}
 use Rattle.pe_image.specs.Bodies.{body_by, body_of}
 use Rattle.pe_image.specs.Sections.{table_at}
 use Rattle.pe_image.specs.declared.locate.Places.{Places}
 use Rattle.pe_image.specs.Metadata.{metadata_checks, metadata_of, header_checks, has_section_table, places}
-
-here : {X : Type 0} (passes : Bool) (fault : ImageFault) (r : Result X ImageFault) (z : X) → cond passes r (Err fault) ≡ Ok z → passes ≡ true
-here true fault r z e = refl
-here false fault r z e = cc
-
-behind : {X : Type 0} (passes : Bool) (fault : ImageFault) (r : Result X ImageFault) (z : X) → cond passes r (Err fault) ≡ Ok z → r ≡ Ok z
-behind true fault r z e = e
-behind false fault r z e = cc
-
-pub passes_at : {X : Type 0} (cs : List Check) (i : ℕ) (d : Check) (x z : X) → i < length cs → outcome cs x ≡ Ok z → (get_or cs i d).passes ≡ true
-passes_at [] i d x z within e = absurd (omega arith)
-passes_at (c ∷ cs) zero d x z within e = here c.passes c.fault (outcome cs x) z e
-passes_at (c ∷ cs) (suc i) d x z within e = passes_at cs i d x z (omega arith) (behind c.passes c.fault (outcome cs x) z e)
 
 -- what `metadata` answers of a file
 pub record AreFound (bytes : List ℕ) (found : Places) : Type 0 where
