@@ -12,6 +12,7 @@ mod widths;
 
 pub use schema::{CODED_TABLES, CodedIndex, Column, TABLE_COUNT, TABLES, TAG_BITS, columns_of};
 pub use tables::Tables;
+pub use widths::width_of;
 
 #[cfg(test)]
 mod tests;
