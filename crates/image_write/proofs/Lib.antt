@@ -1,6 +1,10 @@
 pub mod Appending
+pub mod Bits
+pub mod CellsRead
 pub mod Fitted
+pub mod Found
 pub mod Powers
 pub mod Shortness
 pub mod Sizes
+pub mod TablesRead
 pub mod WrittenLengths

@@ -91,7 +91,7 @@ row_has_bytes draft t some =
 rows_no_columns : (n m : ℕ) → m ≡ 0 → n / m ≡ 0
 rows_no_columns n m e = omega arith
 
-no_rows : (draft : Draft) (t : ℕ) → column_count t ≡ 0 → rows draft t ≡ 0
+pub no_rows : (draft : Draft) (t : ℕ) → column_count t ≡ 0 → rows draft t ≡ 0
 unfolding rows
 no_rows draft t none = rows_no_columns (length (cells draft t)) (column_count t) none
 
