@@ -3,8 +3,11 @@ pub mod Bits
 pub mod CellsRead
 pub mod Fitted
 pub mod Found
+pub mod MetadataLengths
+pub mod MetadataRead
 pub mod Powers
 pub mod Shortness
 pub mod Sizes
+pub mod StreamHeaders
 pub mod TablesRead
 pub mod WrittenLengths

@@ -4,3 +4,4 @@ pub mod Image
 pub mod Layouts
 pub mod Lengths
 pub mod Pieces
+pub mod ReadBack
