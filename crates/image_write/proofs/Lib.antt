@@ -1,8 +1,10 @@
 pub mod Appending
 pub mod Bits
 pub mod CellsRead
+pub mod FileRead
 pub mod Fitted
 pub mod Found
+pub mod ImageRead
 pub mod MetadataLengths
 pub mod MetadataRead
 pub mod Powers

@@ -22,13 +22,12 @@ use Rattle.image_write.specs.Fitting.{fits, crowded}
 use Rattle.image_write.specs.Image.{root, stream_header, headers_of, stream_headers, streams, metadata, tables}
 use Rattle.image_write.specs.Lengths.{tables_len, filled_len, metadata_len, image_len}
 use Rattle.image_write.specs.Pieces.{bytes_of, zeros, rounded, padded, filled, field, text_field, structure}
-use Rattle.image_write.specs.ReadBack.{contents_of, ReadsBack}
-use Rattle.image_write.proofs.CellsRead.{stream_whole, cell_read}
+use Rattle.image_write.specs.ReadBack.{contents_of}
+use Rattle.image_write.proofs.CellsRead.{stream_whole}
 use Rattle.image_write.proofs.Fitted.{short}
 use Rattle.image_write.proofs.Found.{At, at_whole, at_front, at_more, at_behind, at_inside, at_place, at_field, at_within, number_found, range_found, ordered}
 use Rattle.image_write.proofs.MetadataLengths.{length-root, length-stream_header, length-headers_of, length-stream, length-metadata}
 use Rattle.image_write.proofs.StreamHeaders.{IsHeader, Walk, header_read, walk_none, walk_next}
-use Rattle.image_write.proofs.TablesRead.{count_read}
 use Rattle.image_write.proofs.WrittenLengths.{length-padded, length-filled}
 
 -- the root
@@ -254,10 +253,3 @@ metadata_read draft fit none =
     let whole : are_tables (part (metadata draft) (written_streams draft).tables) ≡ true = ap are_tables c.tables_are ∙ stream_whole draft fit none in
     sym (read_whole (metadata draft) (written_streams draft) (headers_pass draft near) there whole)
     ∙ ap (λ (x : Metadata). Ok x) (same_contents _ _ _ _ _ _ _ _ c.tables_are c.strings_are c.users_are c.blobs_are)
-
-pub reads_back : (draft : Draft) → fits draft ≡ true → crowded draft ≡ None → ReadsBack draft (metadata draft)
-reads_back draft fit none = record {
-  read = metadata_read draft fit none;
-  counts = λ t known. count_read draft t (short draft fit) known;
-  cells = λ t r c known row column. cell_read draft t r c fit known row column;
-}

@@ -3,6 +3,7 @@ ghost use Rattle.std.specs.Prelude.{◌≡◌, ◌++◌, IfOk, IfErr, OnOk, Matc
 ghost use Rattle.image_write.specs.Fitting.{fits, crowded};
 ghost use Rattle.image_write.specs.Image.{image_of};
 ghost use Rattle.image_write.specs.Layouts.{IsLayout};
+ghost use Rattle.image_write.specs.ReadBack.{ReadsBack};
 ghost use Rattle.image_write.specs.declared.write_fault.WriteFault.TheVariants.{Memory, TooManyRows};
 
 use crate::draft::Draft;
@@ -36,11 +37,13 @@ fn push_image(out: &mut Vec<u8>, draft: &Draft, layout: &Layout) -> Result<(), A
     out.extend_from_slice(bodies)
 }
 
-/// The image of a draft that fits. `TooManyRows` comes exactly where a table has more than 16,777,215 rows, for the first
+/// The image of a draft that fits. Read back, it has the draft's heaps and cells; an RVA cell has become the RVA of its
+/// byte of `bodies`. `TooManyRows` comes exactly where a table has more than 16,777,215 rows, for the first
 /// such table. Takes one allocation, of the image's length, and time linear in it.
 pub fn write_image(alloc: Global, draft: &Draft) -> Result<Vec<u8>, WriteFault>
     requires { fits draft.now ≡ true }
     ensures image { IfOk result (λ image. image.items ≡ image_of draft.now) }
+    ensures reads_back { IfOk result (λ image. ReadsBack draft.now image.items) }
     ensures few { OnOk result (crowded draft.now ≡ None) }
     ensures fault { IfErr result (λ fault. MatchOption (crowded draft.now) (fault ≡ Memory) (λ t. fault ≡ TooManyRows t)) }
 {
