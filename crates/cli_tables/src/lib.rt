@@ -14,6 +14,7 @@ mod widths;
 pub use schema::{CODED_TABLES, CodedIndex, Column, TABLE_COUNT, TABLES, TAG_BITS, columns_of};
 pub use tables::Tables;
 pub use text_faults::TextFaults;
+pub use widths::width_of;
 
 #[cfg(test)]
 mod tests;
