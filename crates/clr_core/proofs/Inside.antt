@@ -7,12 +7,11 @@ use Rattle.std.specs.List.{find}
 use Rattle.clr_base.specs.declared.image_fault.ImageFault.{ImageFault}
 use Rattle.clr_base.specs.declared.image_fault.FaultKind.TheVariants.{NotPe}
 use Rattle.clr_base.specs.Checks.{Check, outcome, first_fault}
-use Rattle.clr_base.proofs.Checks.{outcome_failed, outcome_passed, outcome_value, outcome_of_fault}
+use Rattle.clr_base.proofs.Checks.{outcome_failed, outcome_passed, outcome_value, outcome_of_fault, passes_at}
 use Rattle.pe_image.specs.declared.locate.Places.{Places}
 use Rattle.pe_image.specs.declared.sections.Section.{Section}
 use Rattle.pe_image.specs.Metadata.{header_checks, range_checks, metadata_checks, metadata_of, metadata_range, metadata_rva, metadata_size, places}
 use Rattle.pe_image.specs.Sections.{covers, place_in, place_by, sections}
-use Rattle.pe_image.proofs.Passed.{passes_at}
 use Rattle.cli_tables.specs.Metadata.{Metadata, read_checks, read_of}
 use Rattle.clr_core.specs.Rows.{rows_checks}
 use Rattle.clr_core.specs.Image.{metadata_bytes, metadata_in, image_checks, image_of}

@@ -5,6 +5,7 @@ mod command;
 mod image;
 mod lines;
 mod names;
+mod nesting;
 mod rows;
 mod status;
 mod top;

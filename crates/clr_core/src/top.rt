@@ -49,7 +49,7 @@ fn run<'a, F: Shelf, O: Sink>(
     let Ok(text) = names_text(alloc, file, &tables) else {
         return Err(Stop::Memory);
     };
-    match put_all(out, text.as_str().as_bytes()) {
+    match put_all(out, text.as_slice()) {
         Ok(()) => Ok(()),
         Err(_) => Err(Stop::WriteFault),
     }

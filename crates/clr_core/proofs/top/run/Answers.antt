@@ -1,5 +1,6 @@
 use Rattle.std.proofs.Common.{sym, refl, ◌∙◌}
 use Rattle.clr_core.proofs.Inside.{answers_fault, answers_text}
+use Rattle.clr_core.proofs.Passing.{type_passes}
 use Rattle.clr_core.proofs.top.run.Goals as goal
 
 pub returns-in-Err-clause-happened : goal.returns-in-Err-clause-happened
@@ -15,7 +16,7 @@ returns-in-Err-clause-happened g c = (
 
 pub returns-in-Ok-put_all-clause-happened : goal.returns-in-Ok-put_all-clause-happened
 returns-in-Ok-put_all-clause-happened g c = (
-  c.as_bytes.result.now,
+  c.as_slice.result.now,
   record {
     file = c.in-Some.file.now;
     judged = record {
@@ -23,7 +24,7 @@ returns-in-Ok-put_all-clause-happened g c = (
       bytes = c.in-Ok.bytes.items;
       told = c.in-Ok.ensures.bytes;
       answers = answers_text c.in-Some.file.now c.in-Ok.bytes.items _ _ c.in-Ok-read_image.tables c.deref.ensures.value c.in-Ok-read_image.ensures.exact
-          (c.as_bytes.ensures.value ∙ c.as_str.ensures ∙ c.in-Ok-names_text.ensures);
+          (c.as_slice.ensures ∙ c.in-Ok-names_text.ensures);
     };
   },
   c.in-Ok-put_all.ensures.text,
@@ -31,7 +32,7 @@ returns-in-Ok-put_all-clause-happened g c = (
 
 pub returns-clause-happened : goal.returns-clause-happened
 returns-clause-happened g c = (
-  c.as_bytes.result.now,
+  c.as_slice.result.now,
   record {
     file = c.in-Some.file.now;
     judged = record {
@@ -39,9 +40,12 @@ returns-clause-happened g c = (
       bytes = c.in-Ok.bytes.items;
       told = c.in-Ok.ensures.bytes;
       answers = answers_text c.in-Some.file.now c.in-Ok.bytes.items _ _ c.in-Ok-read_image.tables c.deref.ensures.value c.in-Ok-read_image.ensures.exact
-          (c.as_bytes.ensures.value ∙ c.as_str.ensures ∙ c.in-Ok-names_text.ensures);
+          (c.as_slice.ensures ∙ c.in-Ok-names_text.ensures);
     };
   },
   c.in-Err-put_all.ensures.text,
   c.in-Err-put_all.ensures.cause.failed,
 )
+
+pub names_text-requires : goal.names_text-requires
+names_text-requires g c = λ row column. type_passes c.in-Ok-read_image.tables row column c.in-Ok-read_image.ensures.rows
