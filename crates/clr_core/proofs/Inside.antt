@@ -115,9 +115,9 @@ names_pass file bytes m e =
     ∙ ap (λ (v : Metadata). Ok (names_text file v)) (sym (outcome_value (image_checks bytes) (metadata_in bytes) m e))
 
 -- The same of bytes that were read through a reference, and of the text that came of them.
-pub answers_fault : (file bytes read : List ℕ) (f : ImageFault) → read ≡ bytes → Err f ≡ image_of read → names_of file bytes ≡ Err f
-answers_fault file bytes read f same e = names_fail file bytes f (ap image_of (sym same) ∙ sym e)
+pub answers_fault : (file bytes read : List ℕ) (f : ImageFault) → read ≡ bytes → image_of read ≡ Err f → names_of file bytes ≡ Err f
+answers_fault file bytes read f same e = names_fail file bytes f (ap image_of (sym same) ∙ e)
 
-pub answers_text : (file bytes read text : List ℕ) (m : Metadata) → read ≡ bytes → Ok m ≡ image_of read → text ≡ names_text file m → names_of file bytes ≡ Ok text
+pub answers_text : (file bytes read text : List ℕ) (m : Metadata) → read ≡ bytes → image_of read ≡ Ok m → text ≡ names_text file m → names_of file bytes ≡ Ok text
 answers_text file bytes read text m same e is =
-    names_pass file bytes m (ap image_of (sym same) ∙ sym e) ∙ ap (λ (t : List ℕ). Ok t) (sym is)
+    names_pass file bytes m (ap image_of (sym same) ∙ e) ∙ ap (λ (t : List ℕ). Ok t) (sym is)

@@ -4,4 +4,6 @@ pub mod Image
 pub mod Lines
 pub mod Names
 pub mod Nesting
+pub mod Refusals
 pub mod Rows
+pub mod RowsBefore

@@ -6,6 +6,8 @@ mod image;
 mod lines;
 mod names;
 mod nesting;
+mod refusal;
+mod row_rules;
 mod rows;
 mod status;
 mod top;

@@ -2,14 +2,11 @@
 ghost use Rattle.std.specs.Prelude.{◌≡◌, slice_set, IfOk};
 ghost use Rattle.clr_core.specs.Nesting as spec;
 
-use crate::rows::TYPE_DEF;
+use crate::rows::{NESTED_CLASS, TYPE_DEF};
 use cli_tables::Tables;
 use clr_base::Memory;
 use sqlite_items::Items;
 use std::alloc::Global;
-
-/// The number of the table NestedClass.
-const NESTED_CLASS: u8 = 0x29;
 
 /// The column NestedClass, a row of TypeDef.
 const NESTED: u8 = 0;

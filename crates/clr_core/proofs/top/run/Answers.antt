@@ -1,15 +1,18 @@
-use Rattle.std.proofs.Common.{sym, refl, ◌∙◌}
+use Rattle.std.proofs.Common.{Err, sym, ap, refl, ◌∙◌}
+use Rattle.clr_core.proofs.Giving.{given_fault}
 use Rattle.clr_core.proofs.Inside.{answers_fault, answers_text}
-use Rattle.clr_core.proofs.Passing.{type_passes}
+use Rattle.clr_core.proofs.Passing.{are_types_named}
 use Rattle.clr_core.proofs.top.run.Goals as goal
 
-pub returns-in-Err-clause-happened : goal.returns-in-Err-clause-happened
-returns-in-Err-clause-happened g c = (
+pub returns-in-Err-Fault-clause-happened : goal.returns-in-Err-Fault-clause-happened
+returns-in-Err-Fault-clause-happened g c = (
   record {
     named = sym c.in-Some.ensures;
     bytes = c.in-Ok.bytes.items;
     told = c.in-Ok.ensures.bytes;
-    answers = answers_fault c.in-Some.file.now c.in-Ok.bytes.items _ c.in-Err.fault c.deref.ensures.value c.in-Err.ensures.exact;
+    answers = answers_fault c.in-Some.file.now c.in-Ok.bytes.items _ c.in-Err-Fault.fault c.deref.ensures.value
+          (given_fault _ _ _ c.in-Err-Fault.field-0-is c.in-Err-Fault.ensures.exact)
+          ∙ ap Err (sym c.in-Err-Fault.fault-is);
   },
   record { content = refl; faults = refl },
 )
@@ -43,9 +46,9 @@ returns-clause-happened g c = (
           (c.as_slice.ensures ∙ c.in-Ok-names_text.ensures);
     };
   },
-  c.in-Err-put_all.ensures.text,
-  c.in-Err-put_all.ensures.cause.failed,
+  c.in-Err.ensures.text,
+  c.in-Err.ensures.cause.failed,
 )
 
 pub names_text-requires : goal.names_text-requires
-names_text-requires g c = λ row column. type_passes c.in-Ok-read_image.tables row column c.in-Ok-read_image.ensures.rows
+names_text-requires g c = are_types_named c.in-Ok-read_image.tables c.in-Ok-read_image.ensures.rows
