@@ -3,17 +3,24 @@ use Rattle.std.proofs.Common.{◌≡◌, ◌≢◌, inl, inr, ℕ, suc, ◌+◌,
 use Rattle.std.proofs.lemmas.Bool.Decides.{eqb_tells}
 use Rattle.std.proofs.lemmas.List.{length-replicate, get_or-replicate, length-set}
 use Rattle.std.proofs.lemmas.List.FromFn.{fill_by_all, length-map-range_with_len, get_or-map-range_with_len}
+use Rattle.std.specs.List.{find, range_with_len}
+use Rattle.std.specs.Option.{option_map_or}
 use Rattle.cli_tables.specs.Layout.{cell, row_count}
 use Rattle.cli_tables.specs.Metadata.{Metadata}
 use Rattle.cli_tables.specs.Schema.{columns}
-use Rattle.clr_core.specs.Nesting.{if_before, enclosing_by, enclosing_row, enclosing_rows}
+use Rattle.clr_core.specs.Nesting.{if_before, enclosing_row, enclosing_rows}
 
 -- the columns NestedClass and EnclosingClass are there
 pub nesting_column : (column : ℕ) → column < 2 → column < length (columns 0x29)
 unfolding columns
 nesting_column column within = omega arith
 
--- what the rows of NestedClass behind the first k say, for each row of TypeDef
+-- what n rows of NestedClass from a first one on tell of a type definition
+unfoldable pub enclosing_by : Metadata → ℕ → ℕ → ℕ → ℕ
+enclosing_by m first n row =
+    if_before row (option_map_or (λ k. cell m.tables 0x29 k 1) (find (λ k. eqb (cell m.tables 0x29 k 0) row) (range_with_len first n)) 0)
+
+-- what those behind the first k tell, for each row of TypeDef
 pub record SaidBehind (m : Metadata) (k : ℕ) (rows : List ℕ) : Type 0 where
   pub count : length rows ≡ row_count m.tables 0x02 + 1
   pub each : (row d : ℕ) → row < row_count m.tables 0x02 + 1 → get_or rows row d ≡ enclosing_by m (k + 1) (row_count m.tables 0x29 - k) row
@@ -84,7 +91,7 @@ said_more m k i nested outer rows rows' is within said nested_is outer_is set = 
 
 -- all of them
 pub said_all : (m : Metadata) (k : ℕ) (rows : List ℕ) → k ≡ 0 → SaidBehind m k rows → rows ≡ enclosing_rows m
-unfolding enclosing_rows
+unfolding enclosing_row enclosing_rows enclosing_by
 said_all m k rows first said =
     let whole : row_count m.tables 0x29 - k ≡ row_count m.tables 0x29 = omega arith in
     fill_by_all (enclosing_row m) rows (row_count m.tables 0x02 + 1) 0 said.count

@@ -7,21 +7,17 @@ use Rattle.cli_tables.specs.Layout.{cell, row_count}
 use Rattle.cli_tables.specs.Metadata.{Metadata}
 use Rattle.clr_core.specs.Rows.{is_text}
 
--- the row of NestedClass that speaks of a type definition, among n rows from a first one on: the first that names it as nested
-abbrev pub nesting_row : Metadata → ℕ → ℕ → ℕ → Option ℕ
-nesting_row m first n row = find (λ k. cell m.tables 0x29 k 0 == row) (range_with_len first n)
+-- the row of NestedClass that tells of a type definition: the first that names it as nested
+abbrev pub nesting_row : Metadata → ℕ → Option ℕ
+nesting_row m row = find (λ k. cell m.tables 0x29 k 0 == row) (range_with_len 1 (row_count m.tables 0x29))
 
 -- the row of a definition that stands before another one. One that doesn't counts as none, which is 0.
 abbrev pub if_before : ℕ → ℕ → ℕ
 if_before row outer = if nat_lt outer row then outer else 0
 
--- what those rows of NestedClass say: the row of the definition around the one in a row, 0 where there is none
-unfoldable pub enclosing_by : Metadata → ℕ → ℕ → ℕ → ℕ
-enclosing_by m first n row = if_before row (option_map_or (λ k. cell m.tables 0x29 k 1) (nesting_row m first n row) 0)
-
--- the row of the definition that encloses the one in a row, by all rows of NestedClass
-abbrev pub enclosing_row : Metadata → ℕ → ℕ
-enclosing_row m row = enclosing_by m 1 (row_count m.tables 0x29) row
+-- the row of the definition that encloses the one in a row, as its column EnclosingClass tells, 0 where there is none
+unfoldable pub enclosing_row : Metadata → ℕ → ℕ
+enclosing_row m row = if_before row (option_map_or (λ k. cell m.tables 0x29 k 1) (nesting_row m row) 0)
 
 -- the same for each row of TypeDef, with 0 in front, so that a row's number is its place
 unfoldable pub enclosing_rows : Metadata → List ℕ

@@ -14,3 +14,6 @@ mod top;
 
 pub use status::{Outcome, Status};
 pub use top::{clr, clr_quiet};
+
+#[cfg(test)]
+mod tests;

@@ -111,11 +111,12 @@ pub fn names_text(alloc: Global, file: &str, tables: &Tables<'_>) -> Result<Byte
     requires { AreTypesNamed tables.now }
     ensures { IfOk result (λ text. text ≡ spec.names_text file.now tables.now) }
 {
+    let count = tables.row_count(TYPE_DEF);
     let enclosing = enclosing_rows(alloc, tables)?;
     let mut text = Vec::from_slice(alloc, file.as_bytes())?;
     text.extend_from_slice(b"\n")?;
-    let mut places = Items::new(alloc);
-    for row in 0..tables.row_count(TYPE_DEF) {
+    let mut places = Items::from_vec(Vec::with_capacity(alloc, count as usize)?);
+    for row in 0..count {
         let outer = enclosing.as_slice()[row as usize + 1];
         push_type(&mut text, &mut places, tables, row + 1, outer)?;
     }
