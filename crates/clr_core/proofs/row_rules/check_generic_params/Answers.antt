@@ -12,8 +12,8 @@ pub loop-row-init : goal.loop-row-init
 loop-row-init c = (
   each_none (λ r. row_checks c.args.tables.now 0x2a (r + 1)),
   none_owned c.args.tables.now c.from_vec-owned.result
-  (c.from_vec-owned.ensures ∙ c.in_ok-vec.ensures.items_if_clones_equal (λ y e. search rules) 
-  ∙ ap (λ n. replicate (2 * (n + 1)) 0) (c.max.ensures ∙ ap₂ max c.row_count.ensures.exact c.row_count-2.ensures.exact)),
+      (c.from_vec-owned.ensures ∙ c.in_ok-vec.ensures.items_if_clones_equal (λ y e. search rules)
+      ∙ ap (λ n. replicate (2 * (n + 1)) 0) (c.max.ensures ∙ ap₂ max c.row_count.ensures.exact c.row_count-2.ensures.exact)),
 )
 
 pub returns-in_err-check_columns : goal.returns-in_err-check_columns
@@ -37,6 +37,6 @@ pub loop-row-preserved : goal.loop-row-preserved
 loop-row-preserved c =
     let m = c.args.tables.now in (
       each_passed c.loop-row.row (λ r. row_checks m 0x2a (r + 1)) c.loop-row.invariant.0
-      (row_passes m 0x2a (c.loop-row.row + 1) (sym c.in_ok-check_columns.ensures) (sym c.in_ok-check_number.ensures.exact)),
+          (row_passes m 0x2a (c.loop-row.row + 1) (sym c.in_ok-check_columns.ensures) (sym c.in_ok-check_number.ensures.exact)),
       c.check_number.ensures.owned,
     )

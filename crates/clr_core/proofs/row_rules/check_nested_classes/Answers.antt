@@ -12,7 +12,7 @@ pub loop-row-init : goal.loop-row-init
 loop-row-init c = (
   each_none (λ r. row_checks c.args.tables.now 0x29 (r + 1)),
   none_nested c.args.tables.now c.from_vec-seen.result
-  (c.from_vec-seen.ensures ∙ c.in_ok-vec.ensures.items_if_clones_equal (λ y e. search rules) ∙ ap (λ n. replicate (n + 1) false) c.row_count.ensures.exact),
+      (c.from_vec-seen.ensures ∙ c.in_ok-vec.ensures.items_if_clones_equal (λ y e. search rules) ∙ ap (λ n. replicate (n + 1) false) c.row_count.ensures.exact),
 )
 
 pub returns-in_err-check_columns : goal.returns-in_err-check_columns
@@ -36,6 +36,6 @@ pub loop-row-preserved : goal.loop-row-preserved
 loop-row-preserved c =
     let m = c.args.tables.now in (
       each_passed c.loop-row.row (λ r. row_checks m 0x29 (r + 1)) c.loop-row.invariant.0
-      (row_passes m 0x29 (c.loop-row.row + 1) (sym c.in_ok-check_columns.ensures) (sym c.in_ok-check_nesting.ensures.exact)),
+          (row_passes m 0x29 (c.loop-row.row + 1) (sym c.in_ok-check_columns.ensures) (sym c.in_ok-check_nesting.ensures.exact)),
       c.check_nesting.ensures.seen,
     )

@@ -11,8 +11,8 @@ returns-in-Err-Fault-clause-happened g c = (
     bytes = c.in-Ok.bytes.items;
     told = c.in-Ok.ensures.bytes;
     answers = answers_fault c.in-Some.file.now c.in-Ok.bytes.items _ c.in-Err-Fault.fault c.deref.ensures.value
-          (given_fault _ _ _ c.in-Err-Fault.field-0-is c.in-Err-Fault.ensures.exact)
-          ∙ ap Err (sym c.in-Err-Fault.fault-is);
+        (given_fault _ _ _ c.in-Err-Fault.field-0-is c.in-Err-Fault.ensures.exact)
+        ∙ ap Err (sym c.in-Err-Fault.fault-is);
   },
   record { content = refl; faults = refl },
 )
