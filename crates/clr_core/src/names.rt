@@ -39,6 +39,14 @@ fn type_text<'a>(tables: &'a Tables<'_>, row: u32, column: u8) -> &'a str
     }
 }
 
+/// Appends a piece of text.
+fn push(text: &mut Vec<u8>, piece: &str) -> Result<(), Memory>
+    ensures { OnOk result (text.new.items ≡ text.old.items ++ piece.now) }
+{
+    text.extend_from_slice(piece.as_bytes())?;
+    Ok(())
+}
+
 /// Appends a namespace and its dot, nothing where it is empty.
 fn push_qualifier(text: &mut Vec<u8>, namespace: &str) -> Result<(), Memory>
     ensures { OnOk result (text.new.items ≡ text.old.items ++ spec.qualifier namespace.now) }
@@ -46,8 +54,8 @@ fn push_qualifier(text: &mut Vec<u8>, namespace: &str) -> Result<(), Memory>
     if namespace.is_empty() {
         return Ok(());
     }
-    text.extend_from_slice(namespace.as_bytes())?;
-    text.extend_from_slice(b".")?;
+    push(text, namespace)?;
+    push(text, ".")?;
     Ok(())
 }
 
@@ -72,9 +80,10 @@ fn push_full_name(
     } else {
         let place = places[outer as usize - 1];
         text.extend_from_within(place.start..place.start + place.len)?;
-        text.extend_from_slice(b"+")?;
+        push(text, "+")?;
     }
-    text.extend_from_slice(type_text(tables, row, NAME).as_bytes())?;
+    let name = type_text(tables, row, NAME);
+    push(text, name)?;
     Ok(())
 }
 
@@ -95,12 +104,12 @@ fn push_type(
     ensures line { OnOk result (text.new.items ≡ text.old.items ++ spec.type_line tables.now row) }
     ensures listed { OnOk result (spec.AreListed tables.now row text.new.items places.new) }
 {
-    text.extend_from_slice(b"  ")?;
+    push(text, "  ")?;
     let start = text.len();
     push_full_name(text, places.as_slice(), tables, row, outer)?;
     let len = text.len() - start;
     places.push(Place { start, len })?;
-    text.extend_from_slice(b"\n")?;
+    push(text, "\n")?;
     Ok(())
 }
 
@@ -114,7 +123,7 @@ pub fn names_text(alloc: Global, file: &str, tables: &Tables<'_>) -> Result<Byte
     let count = tables.row_count(TYPE_DEF);
     let enclosing = enclosing_rows(alloc, tables)?;
     let mut text = Vec::from_slice(alloc, file.as_bytes())?;
-    text.extend_from_slice(b"\n")?;
+    push(&mut text, "\n")?;
     let mut places = Items::from_vec(Vec::with_capacity(alloc, count as usize)?);
     for row in 0..count {
         let outer = enclosing.as_slice()[row as usize + 1];
