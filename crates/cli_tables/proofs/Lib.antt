@@ -1,8 +1,11 @@
 pub mod CellLemmas
+pub mod Characters
 pub mod Columns
 pub mod Conjunctions
 pub mod Constants
 pub mod Counts
+pub mod Faults
+pub mod NextZero
 pub mod Placing
 pub mod Reading
 pub mod SchemaFacts

@@ -5,3 +5,4 @@ pub mod Places
 pub mod Root
 pub mod Schema
 pub mod Streams
+pub mod TextFaults

@@ -8,10 +8,12 @@ mod root;
 mod schema;
 mod streams;
 mod tables;
+mod text_faults;
 mod widths;
 
 pub use schema::{CODED_TABLES, CodedIndex, Column, TABLE_COUNT, TABLES, TAG_BITS, columns_of};
 pub use tables::Tables;
+pub use text_faults::TextFaults;
 pub use widths::width_of;
 
 #[cfg(test)]

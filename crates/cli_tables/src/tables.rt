@@ -7,6 +7,7 @@ ghost use Rattle.cli_tables.specs.Layout as spec;
 ghost use Rattle.cli_tables.specs.Metadata.{read_of, header_checks, streams_of, part};
 ghost use Rattle.cli_tables.specs.Places.{ArePlaces};
 ghost use Rattle.cli_tables.specs.Streams.{AreInside, IsInside};
+ghost use Rattle.cli_tables.specs.TextFaults.{AreTextFaults};
 
 use crate::cells::read_cell;
 use crate::heaps::{blob_in, string_in};
@@ -14,7 +15,9 @@ use crate::layout::{TablePlace, read_layout};
 use crate::root::read_root;
 use crate::schema::TABLE_COUNT;
 use crate::streams::{Range, Streams, read_streams};
+use crate::text_faults::TextFaults;
 use clr_base::{FaultKind, ImageFault};
+use std::alloc::{AllocError, Global};
 use std::marker::Model;
 
 /// Metadata (ECMA-335 II.24): the tables of `#~` and the heaps. It is seen as the contents of its streams; where each
@@ -139,6 +142,14 @@ impl<'a> Tables<'a> {
         ensures { MatchResult result (λ text. string_at self.now.strings index ≡ Ok text.now) (λ kind. string_at self.now.strings index ≡ Err kind) }
     {
         string_in(self.strings, index)
+    }
+
+    /// What is wrong with the text at each index of `#Strings`, for callers that check many. Takes memory for each byte of the
+    /// heap, and time in its length.
+    pub fn text_faults(&self, alloc: Global) -> Result<TextFaults, AllocError>
+        ensures { IfOk result (λ faults. AreTextFaults self.now.strings faults) }
+    {
+        TextFaults::read(alloc, self.strings)
     }
 
     /// The blob at an index of `#Blob`, empty at 0. `BadIndex` where its length or its content leaves the heap. Takes no

@@ -39,6 +39,12 @@ fn the_smallest_metadata(rt: HostRuntime) -> Result<(), Fail> {
     assert_eq!(rt; tables.string(7), Ok("<Module>"));
     assert_eq!(rt; tables.string(0), Ok(""));
     assert_eq!(rt; tables.string(16), Err(FaultKind::BadIndex));
+    assert!(rt; tables.row_count(0x02) >= 1);
+    assert_eq!(rt; tables.cell(0x02, 1, 1), 7);
+    assert_eq!(rt;
+        tables.text_faults(rt.alloc())?.fault(16),
+        Some(FaultKind::BadIndex)
+    );
     assert_eq!(rt; tables.blob(1).ok().map(|blob| blob.len()), Some(0));
     assert_eq!(rt; tables.blob(4).err(), Some(FaultKind::BadIndex));
     assert_eq!(rt; tables.user_string(0).ok().map(|blob| blob.len()), Some(0));
@@ -51,6 +57,23 @@ fn a_text_that_is_not_utf8(rt: HostRuntime) -> Result<(), Fail> {
     let meta = metadata(rt.alloc(), 0xab, 0xff)?;
     let tables = Tables::read(&meta)?;
     assert_eq!(rt; tables.string(7), Err(FaultKind::BadText));
+    Ok(())
+}
+
+#[test]
+fn what_is_wrong_with_each_text(rt: HostRuntime) -> Result<(), Fail> {
+    // `a`, then the first half of `é`; `é`; `€` behind a byte that begins nothing; `𝄞` without its zero.
+    let heap = b"\0a\xc3\0\xc3\xa9\0\xff\xe2\x82\xac\0\xf0\x9d\x84\x9e".as_slice();
+    let bad = Some(FaultKind::BadText);
+    let outside = Some(FaultKind::BadIndex);
+    let wanted = [
+        None, bad, bad, None, None, bad, None, bad, None, bad, bad, None, outside, outside,
+        outside, outside, outside,
+    ];
+    let faults = TextFaults::read(rt.alloc(), heap)?;
+    for (index, fault) in wanted.iter().enumerate() {
+        assert_eq!(rt; faults.fault(index as u32), *fault);
+    }
     Ok(())
 }
 

@@ -7,12 +7,11 @@ use Rattle.std.specs.List.{find}
 use Rattle.clr_base.specs.declared.image_fault.ImageFault.{ImageFault}
 use Rattle.clr_base.specs.declared.image_fault.FaultKind.TheVariants.{NotPe}
 use Rattle.clr_base.specs.Checks.{Check, outcome, first_fault}
-use Rattle.clr_base.proofs.Checks.{outcome_failed, outcome_passed, outcome_value, outcome_of_fault}
+use Rattle.clr_base.proofs.Checks.{outcome_failed, outcome_passed, outcome_value, outcome_of_fault, passes_at}
 use Rattle.pe_image.specs.declared.locate.Places.{Places}
 use Rattle.pe_image.specs.declared.sections.Section.{Section}
 use Rattle.pe_image.specs.Metadata.{header_checks, range_checks, metadata_checks, metadata_of, metadata_range, metadata_rva, metadata_size, places}
 use Rattle.pe_image.specs.Sections.{covers, place_in, place_by, sections}
-use Rattle.pe_image.proofs.Passed.{passes_at}
 use Rattle.cli_tables.specs.Metadata.{Metadata, read_checks, read_of}
 use Rattle.clr_core.specs.Rows.{rows_checks}
 use Rattle.clr_core.specs.Image.{metadata_bytes, metadata_in, image_checks, image_of}
@@ -116,9 +115,9 @@ names_pass file bytes m e =
     ∙ ap (λ (v : Metadata). Ok (names_text file v)) (sym (outcome_value (image_checks bytes) (metadata_in bytes) m e))
 
 -- The same of bytes that were read through a reference, and of the text that came of them.
-pub answers_fault : (file bytes read : List ℕ) (f : ImageFault) → read ≡ bytes → Err f ≡ image_of read → names_of file bytes ≡ Err f
-answers_fault file bytes read f same e = names_fail file bytes f (ap image_of (sym same) ∙ sym e)
+pub answers_fault : (file bytes read : List ℕ) (f : ImageFault) → read ≡ bytes → image_of read ≡ Err f → names_of file bytes ≡ Err f
+answers_fault file bytes read f same e = names_fail file bytes f (ap image_of (sym same) ∙ e)
 
-pub answers_text : (file bytes read text : List ℕ) (m : Metadata) → read ≡ bytes → Ok m ≡ image_of read → text ≡ names_text file m → names_of file bytes ≡ Ok text
+pub answers_text : (file bytes read text : List ℕ) (m : Metadata) → read ≡ bytes → image_of read ≡ Ok m → text ≡ names_text file m → names_of file bytes ≡ Ok text
 answers_text file bytes read text m same e is =
-    names_pass file bytes m (ap image_of (sym same) ∙ sym e) ∙ ap (λ (t : List ℕ). Ok t) (sym is)
+    names_pass file bytes m (ap image_of (sym same) ∙ e) ∙ ap (λ (t : List ℕ). Ok t) (sym is)

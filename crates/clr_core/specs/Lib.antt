@@ -3,4 +3,7 @@ pub mod Ends
 pub mod Image
 pub mod Lines
 pub mod Names
+pub mod Nesting
+pub mod Refusals
 pub mod Rows
+pub mod RowsBefore

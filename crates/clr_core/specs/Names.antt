@@ -1,12 +1,14 @@
 -- What `names` writes of a file.
-use Rattle.std.specs.Prelude.{ℕ, List, [], ◌++◌, codes, unwrap_or, Result}
+use Rattle.std.specs.Prelude.{◌≡◌, ℕ, zero, suc, ◌+◌, ◌<◌, ◌≤◌, List, [], ◌++◌, length, get_or, slice_range, codes, ◌==◌, if◌then◌else◌, unwrap_or, Result}
 use Rattle.std.specs.List.{flat_map, range_with_len}
 use Rattle.clr_base.specs.declared.image_fault.ImageFault.{ImageFault}
 use Rattle.clr_base.specs.Checks.{outcome}
 use Rattle.cli_tables.specs.Heaps.{text_at}
 use Rattle.cli_tables.specs.Layout.{cell, row_count}
 use Rattle.cli_tables.specs.Metadata.{Metadata}
+use Rattle.clr_core.specs.declared.names.Place.{Place}
 use Rattle.clr_core.specs.Image.{image_checks, metadata_in}
+use Rattle.clr_core.specs.Nesting.{enclosing_row}
 
 -- the text that a cell of TypeDef (ECMA-335 II.22.37) has the index of
 unfoldable pub type_text : Metadata → ℕ → ℕ → List ℕ
@@ -17,9 +19,21 @@ abbrev pub qualifier : List ℕ → List ℕ
 qualifier [] = []
 qualifier namespace = namespace ++ codes "."
 
--- the full name of the type definition in a row, from 1
+-- the name of the type definition in a row, from 1, behind its namespace
+abbrev pub qualified_name : Metadata → ℕ → List ℕ
+qualified_name m row = qualifier (type_text m row 2) ++ type_text m row 1
+
+-- the name of the type definition in a row behind those of the definitions around it, of which at most n are looked at
+unfoldable pub name_within : ℕ → Metadata → ℕ → List ℕ
+name_within zero m row = qualified_name m row
+name_within (suc n) m row =
+    if enclosing_row m row == 0 then qualified_name m row
+    else name_within n m (enclosing_row m row) ++ codes "+" ++ type_text m row 1
+
+-- The full name of the type definition in a row, from 1. There are fewer definitions around it than its row's number,
+-- since each stands before the one that it encloses.
 abbrev pub full_name : Metadata → ℕ → List ℕ
-full_name m row = qualifier (type_text m row 2) ++ type_text m row 1
+full_name m row = name_within row m row
 
 unfoldable pub type_line : Metadata → ℕ → List ℕ
 type_line m row = codes "  " ++ full_name m row ++ codes "\n"
@@ -31,3 +45,13 @@ names_text file m = file ++ codes "\n" ++ flat_map (type_line m) (range_with_len
 -- what is written of a file of that name and these bytes, or its first fault
 abbrev pub names_of : List ℕ → List ℕ → Result (List ℕ) ImageFault
 names_of file bytes = outcome (image_checks bytes) (names_text file (metadata_in bytes))
+
+-- a name stands at a place of a text
+pub record StandsAt (text name : List ℕ) (place : Place) : Type 0 where
+  pub inside : place.start + place.len ≤ length text
+  pub is : slice_range text place.start (place.start + place.len) ≡ name
+
+-- the full names of the first n type definitions stand at these places of a text
+pub record AreListed (m : Metadata) (n : ℕ) (text : List ℕ) (places : List Place) : Type 0 where
+  pub count : length places ≡ n
+  pub each : (k : ℕ) (d : Place) → k < n → StandsAt text (full_name m (k + 1)) (get_or places k d)

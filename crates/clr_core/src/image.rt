@@ -1,12 +1,14 @@
 //! A whole file.
 ghost use Rattle.std.specs.Prelude.{◌≡◌, ◌+◌, ◌≤◌, length, slice_range, IfOk};
 ghost use Rattle.clr_core.specs.Image.{image_of};
+ghost use Rattle.clr_core.specs.Refusals.{GivesOutcome};
 ghost use Rattle.clr_core.specs.Rows.{ArePassed};
 
+use crate::refusal::Refusal;
 use crate::rows::check_rows;
 use cli_tables::Tables;
-use clr_base::ImageFault;
 use pe_image::{Places, metadata};
+use std::alloc::Global;
 
 /// The bytes of the metadata.
 fn metadata_part(bytes: &[u8], places: Places) -> &[u8]
@@ -18,13 +20,13 @@ fn metadata_part(bytes: &[u8], places: Places) -> &[u8]
     &bytes[start..end]
 }
 
-/// The metadata of a file that passes all its checks, or the first fault. Takes no memory.
-pub fn read_image(bytes: &[u8]) -> Result<Tables<'_>, ImageFault>
-    ensures exact { result ≡ image_of bytes.now }
+/// The metadata of a file that passes all its checks, or the first fault. Takes the memory that the checks of rows take.
+pub fn read_image(alloc: Global, bytes: &[u8]) -> Result<Tables<'_>, Refusal>
+    ensures exact { GivesOutcome result (image_of bytes.now) }
     ensures rows { IfOk result (λ m. ArePassed m) }
 {
     let places = metadata(bytes)?;
     let tables = Tables::read(metadata_part(bytes, places))?;
-    check_rows(&tables)?;
+    check_rows(alloc, &tables)?;
     Ok(tables)
 }

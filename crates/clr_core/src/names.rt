@@ -1,12 +1,14 @@
 //! What `names` writes of a file.
-ghost use Rattle.std.specs.Prelude.{◌≡◌, ◌++◌, ◌≤◌, ◌⊎◌, IfOk, OnOk};
+ghost use Rattle.std.specs.Prelude.{◌≡◌, ◌-◌, ◌++◌, ◌≤◌, ◌⊎◌, IfOk, OnOk};
 ghost use Rattle.cli_tables.specs.Layout.{row_count};
 ghost use Rattle.clr_core.specs.Names as spec;
-ghost use Rattle.clr_core.specs.Rows.{ArePassed};
+ghost use Rattle.clr_core.specs.Nesting.{AreTypesNamed, enclosing_row};
 
+use crate::nesting::enclosing_rows;
 use crate::rows::TYPE_DEF;
 use cli_tables::Tables;
-use clr_base::{Memory, Text};
+use clr_base::{Bytes, Memory};
+use sqlite_items::Items;
 use std::alloc::Global;
 
 /// The column Name of TypeDef (ECMA-335 II.22.37).
@@ -15,10 +17,17 @@ const NAME: u8 = 1;
 /// The column Namespace of TypeDef.
 const NAMESPACE: u8 = 2;
 
+/// Where a full name stands in the text that is made.
+#[derive(Clone, Copy)]
+struct Place {
+    start: usize,
+    len: usize,
+}
+
 /// The text that a column of a row of TypeDef has the index of.
 #[tactic(auto, unfolding(crate::specs::Names::type_text))]
 fn type_text<'a>(tables: &'a Tables<'_>, row: u32, column: u8) -> &'a str
-    requires passed { ArePassed tables.now }
+    requires named { AreTypesNamed tables.now }
     requires first { 1 ≤ row }
     requires last { row ≤ row_count tables.now.tables 2 }
     requires texts { (column ≡ 1) ⊎ (column ≡ 2) }
@@ -30,43 +39,95 @@ fn type_text<'a>(tables: &'a Tables<'_>, row: u32, column: u8) -> &'a str
     }
 }
 
+/// Appends a piece of text.
+fn push(text: &mut Vec<u8>, piece: &str) -> Result<(), Memory>
+    ensures { OnOk result (text.new.items ≡ text.old.items ++ piece.now) }
+{
+    text.extend_from_slice(piece.as_bytes())?;
+    Ok(())
+}
+
 /// Appends a namespace and its dot, nothing where it is empty.
-fn push_qualifier(text: &mut Text, namespace: &str) -> Result<(), Memory>
-    ensures { OnOk result (text.new ≡ text.old ++ spec.qualifier namespace.now) }
+fn push_qualifier(text: &mut Vec<u8>, namespace: &str) -> Result<(), Memory>
+    ensures { OnOk result (text.new.items ≡ text.old.items ++ spec.qualifier namespace.now) }
 {
     if namespace.is_empty() {
         return Ok(());
     }
-    text.push_str(namespace)?;
-    text.push_str(".")?;
+    push(text, namespace)?;
+    push(text, ".")?;
     Ok(())
 }
 
-/// Appends the line of the type definition in a row, counted from 1.
-#[tactic(auto, unfolding(crate::specs::Names::type_line))]
-fn push_type(text: &mut Text, tables: &Tables<'_>, row: u32) -> Result<(), Memory>
-    requires passed { ArePassed tables.now }
+/// Appends the full name of the type definition in a row, counted from 1. It is made once: that of the definition around it,
+/// in the row `outer`, is copied from where it stands in the text.
+fn push_full_name(
+    text: &mut Vec<u8>,
+    places: &[Place],
+    tables: &Tables<'_>,
+    row: u32,
+    outer: u32,
+) -> Result<(), Memory>
+    requires named { AreTypesNamed tables.now }
     requires first { 1 ≤ row }
     requires last { row ≤ row_count tables.now.tables 2 }
-    ensures { OnOk result (text.new ≡ text.old ++ spec.type_line tables.now row) }
+    requires outer { outer ≡ enclosing_row tables.now row }
+    requires listed { spec.AreListed tables.now (row - 1) text.old.items places.now }
+    ensures { OnOk result (text.new.items ≡ text.old.items ++ spec.full_name tables.now row) }
 {
-    text.push_str("  ")?;
-    push_qualifier(text, type_text(tables, row, NAMESPACE))?;
-    text.push_str(type_text(tables, row, NAME))?;
-    text.push_str("\n")?;
+    if outer == 0 {
+        push_qualifier(text, type_text(tables, row, NAMESPACE))?;
+    } else {
+        let place = places[outer as usize - 1];
+        text.extend_from_within(place.start..place.start + place.len)?;
+        push(text, "+")?;
+    }
+    let name = type_text(tables, row, NAME);
+    push(text, name)?;
     Ok(())
 }
 
-/// The file's word, then the full name of each type definition, each on a line of its own.
+/// Appends the line of the type definition in a row, counted from 1, and the place of its full name.
+#[tactic(auto, unfolding(crate::specs::Names::type_line))]
+fn push_type(
+    text: &mut Vec<u8>,
+    places: &mut Items<Place>,
+    tables: &Tables<'_>,
+    row: u32,
+    outer: u32,
+) -> Result<(), Memory>
+    requires named { AreTypesNamed tables.now }
+    requires first { 1 ≤ row }
+    requires last { row ≤ row_count tables.now.tables 2 }
+    requires outer { outer ≡ enclosing_row tables.now row }
+    requires listed { spec.AreListed tables.now (row - 1) text.old.items places.old }
+    ensures line { OnOk result (text.new.items ≡ text.old.items ++ spec.type_line tables.now row) }
+    ensures listed { OnOk result (spec.AreListed tables.now row text.new.items places.new) }
+{
+    push(text, "  ")?;
+    let start = text.len();
+    push_full_name(text, places.as_slice(), tables, row, outer)?;
+    let len = text.len() - start;
+    places.push(Place { start, len })?;
+    push(text, "\n")?;
+    Ok(())
+}
+
+/// The file's word, then the full name of each type definition, each on a line of its own. Time and memory go with the
+/// text, the rows of TypeDef and NestedClass, and the names that are read.
 #[tactic(auto, unfolding(crate::specs::Names::names_text))]
-pub fn names_text(alloc: Global, file: &str, tables: &Tables<'_>) -> Result<Text, Memory>
-    requires { ArePassed tables.now }
+pub fn names_text(alloc: Global, file: &str, tables: &Tables<'_>) -> Result<Bytes, Memory>
+    requires { AreTypesNamed tables.now }
     ensures { IfOk result (λ text. text ≡ spec.names_text file.now tables.now) }
 {
-    let mut text = Text::from_str(alloc, file)?;
-    text.push_str("\n")?;
-    for row in 0..tables.row_count(TYPE_DEF) {
-        push_type(&mut text, tables, row + 1)?;
+    let count = tables.row_count(TYPE_DEF);
+    let enclosing = enclosing_rows(alloc, tables)?;
+    let mut text = Vec::from_slice(alloc, file.as_bytes())?;
+    push(&mut text, "\n")?;
+    let mut places = Items::from_vec(Vec::with_capacity(alloc, count as usize)?);
+    for row in 0..count {
+        let outer = enclosing.as_slice()[row as usize + 1];
+        push_type(&mut text, &mut places, tables, row + 1, outer)?;
     }
-    Ok(text)
+    Ok(Bytes::from_vec(text))
 }

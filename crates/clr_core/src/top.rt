@@ -11,6 +11,7 @@ use crate::command;
 use crate::image::read_image;
 use crate::lines::say_stop;
 use crate::names::names_text;
+use crate::refusal::Refusal;
 use crate::status::{Outcome, Status, Stop};
 use clr_base::{FetchFault, Gate, Shelf, Sink, put_all};
 use std::alloc::Global;
@@ -42,14 +43,15 @@ fn run<'a, F: Shelf, O: Sink>(
         Err(FetchFault::Failed) => return Err(Stop::ReadFault(file)),
         Err(FetchFault::Memory) => return Err(Stop::Memory),
     };
-    let tables = match read_image(&bytes) {
+    let tables = match read_image(alloc, &bytes) {
         Ok(tables) => tables,
-        Err(fault) => return Err(Stop::BadImage(file, fault)),
+        Err(Refusal::Fault(fault)) => return Err(Stop::BadImage(file, fault)),
+        Err(Refusal::Memory) => return Err(Stop::Memory),
     };
     let Ok(text) = names_text(alloc, file, &tables) else {
         return Err(Stop::Memory);
     };
-    match put_all(out, text.as_str().as_bytes()) {
+    match put_all(out, text.as_slice()) {
         Ok(()) => Ok(()),
         Err(_) => Err(Stop::WriteFault),
     }

@@ -1,7 +1,10 @@
 use Rattle.std.proofs.Common.{◌≡◌, ◌++◌, codes}
 use Rattle.std.specs.List.{flat_map, range_with_len}
-use Rattle.clr_core.specs.Names.{type_line}
+use Rattle.clr_core.specs.Names.{type_line, AreListed}
 use Rattle.clr_core.proofs.names.names_text.Given as goal
 
 abbrev pub invariant-loop-row : goal.invariant-loop-row
-invariant-loop-row l = l.text ≡ l.file ++ codes "\n" ++ flat_map (type_line l.tables) (range_with_len 1 l.row)
+invariant-loop-row l = record {
+  text : l.text.items ≡ l.file ++ codes "\n" ++ flat_map (type_line l.tables) (range_with_len 1 l.row);
+  listed : AreListed l.tables l.row l.text.items l.places;
+}

@@ -1,7 +1,7 @@
 use Rattle.std.proofs.Common.{◌≡◌, true, sym, subst}
 use Rattle.cli_tables.specs.Heaps.{text_at}
 use Rattle.clr_core.specs.Rows.{is_text}
-use Rattle.clr_core.proofs.Passing.{text_column, type_passes, is_read}
+use Rattle.clr_core.proofs.Passing.{text_column, is_read}
 use Rattle.clr_core.proofs.names.type_text.Goals as goal
 
 pub cell-requires : goal.cell-requires
@@ -9,6 +9,6 @@ cell-requires c = record { first = c.requires.first; last = c.requires.last; col
 
 pub unreachable-requires : goal.unreachable-requires
 unreachable-requires c =
-    let passes = type_passes c.args.tables.now c.args.row c.args.column c.requires.passed c.requires.first c.requires.last c.requires.texts in
+    let there = c.requires.named c.args.row c.args.column c.requires.first c.requires.last c.requires.texts in
     is_read (text_at c.args.tables.now.strings c.cell.result) c.in-Err.field-0
-    (subst (λ i. is_text (text_at c.args.tables.now.strings i) ≡ true) (sym c.cell.ensures) passes) c.in-Err.ensures
+    (subst (λ i. is_text (text_at c.args.tables.now.strings i) ≡ true) (sym c.cell.ensures) there) c.in-Err.ensures

@@ -1,21 +1,25 @@
-use Rattle.std.proofs.Common.{sym, refl, ◌∙◌}
+use Rattle.std.proofs.Common.{Err, sym, ap, refl, ◌∙◌}
+use Rattle.clr_core.proofs.Giving.{given_fault}
 use Rattle.clr_core.proofs.Inside.{answers_fault, answers_text}
+use Rattle.clr_core.proofs.Passing.{are_types_named}
 use Rattle.clr_core.proofs.top.run.Goals as goal
 
-pub returns-in-Err-clause-happened : goal.returns-in-Err-clause-happened
-returns-in-Err-clause-happened g c = (
+pub returns-in-Err-Fault-clause-happened : goal.returns-in-Err-Fault-clause-happened
+returns-in-Err-Fault-clause-happened g c = (
   record {
     named = sym c.in-Some.ensures;
     bytes = c.in-Ok.bytes.items;
     told = c.in-Ok.ensures.bytes;
-    answers = answers_fault c.in-Some.file.now c.in-Ok.bytes.items _ c.in-Err.fault c.deref.ensures.value c.in-Err.ensures.exact;
+    answers = answers_fault c.in-Some.file.now c.in-Ok.bytes.items _ c.in-Err-Fault.fault c.deref.ensures.value
+        (given_fault _ _ _ c.in-Err-Fault.field-0-is c.in-Err-Fault.ensures.exact)
+        ∙ ap Err (sym c.in-Err-Fault.fault-is);
   },
   record { content = refl; faults = refl },
 )
 
 pub returns-in-Ok-put_all-clause-happened : goal.returns-in-Ok-put_all-clause-happened
 returns-in-Ok-put_all-clause-happened g c = (
-  c.as_bytes.result.now,
+  c.as_slice.result.now,
   record {
     file = c.in-Some.file.now;
     judged = record {
@@ -23,7 +27,7 @@ returns-in-Ok-put_all-clause-happened g c = (
       bytes = c.in-Ok.bytes.items;
       told = c.in-Ok.ensures.bytes;
       answers = answers_text c.in-Some.file.now c.in-Ok.bytes.items _ _ c.in-Ok-read_image.tables c.deref.ensures.value c.in-Ok-read_image.ensures.exact
-          (c.as_bytes.ensures.value ∙ c.as_str.ensures ∙ c.in-Ok-names_text.ensures);
+          (c.as_slice.ensures ∙ c.in-Ok-names_text.ensures);
     };
   },
   c.in-Ok-put_all.ensures.text,
@@ -31,7 +35,7 @@ returns-in-Ok-put_all-clause-happened g c = (
 
 pub returns-clause-happened : goal.returns-clause-happened
 returns-clause-happened g c = (
-  c.as_bytes.result.now,
+  c.as_slice.result.now,
   record {
     file = c.in-Some.file.now;
     judged = record {
@@ -39,9 +43,12 @@ returns-clause-happened g c = (
       bytes = c.in-Ok.bytes.items;
       told = c.in-Ok.ensures.bytes;
       answers = answers_text c.in-Some.file.now c.in-Ok.bytes.items _ _ c.in-Ok-read_image.tables c.deref.ensures.value c.in-Ok-read_image.ensures.exact
-          (c.as_bytes.ensures.value ∙ c.as_str.ensures ∙ c.in-Ok-names_text.ensures);
+          (c.as_slice.ensures ∙ c.in-Ok-names_text.ensures);
     };
   },
-  c.in-Err-put_all.ensures.text,
-  c.in-Err-put_all.ensures.cause.failed,
+  c.in-Err.ensures.text,
+  c.in-Err.ensures.cause.failed,
 )
+
+pub names_text-requires : goal.names_text-requires
+names_text-requires g c = are_types_named c.in-Ok-read_image.tables c.in-Ok-read_image.ensures.rows
