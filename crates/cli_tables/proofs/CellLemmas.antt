@@ -27,7 +27,7 @@ two_or_four : (b : Bool) → is_read_width (cond b 2 4) ≡ true
 two_or_four true = refl
 two_or_four false = refl
 
-width_reads : (counts : List ℕ) (sizes : ℕ) (column : Column) → is_read_width (width counts sizes column) ≡ true
+pub width_reads : (counts : List ℕ) (sizes : ℕ) (column : Column) → is_read_width (width counts sizes column) ≡ true
 unfolding width
 width_reads counts sizes U8 = refl
 width_reads counts sizes U16 = refl

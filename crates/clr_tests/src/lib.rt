@@ -4,6 +4,12 @@
 #[cfg(test)]
 mod image;
 #[cfg(test)]
+mod kit;
+#[cfg(test)]
 mod names;
 #[cfg(test)]
 mod run;
+#[cfg(test)]
+mod signatures;
+#[cfg(test)]
+mod written;

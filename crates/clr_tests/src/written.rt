@@ -1,0 +1,134 @@
+//! Drafts that are written, and what is read of their images.
+ghost use Rattle.std.specs.Prelude.{◌≡◌, true};
+
+use crate::kit::{Assembly, NOTHING, Row, methods, types};
+use crate::run::{NOTHING_FAILS, Ran, run};
+use crate::signatures::{BOOLEAN, HAS_THIS, INT32, class, field, instance, method, var};
+use cli_tables::{Tables, columns_of};
+use clr_core::Status;
+use image_write::{Draft, write_image};
+use std::alloc::{AllocError, Global};
+use std::process::Abort;
+use std::test::Fail;
+use std::thread::Threads;
+
+/// The image of a draft, which must fit.
+fn image(rt: &impl Abort, alloc: Global, draft: &Draft) -> Result<Vec<u8>, Fail> {
+    assert!(rt; draft.fits());
+    Ok(write_image(alloc, draft)?)
+}
+
+/// A cell of a table, where it has one there. Rows count from 1.
+fn cell(tables: &Tables<'_>, row: Row, column: u8) -> Option<u32> {
+    if row.row == 0 || row.row > tables.row_count(row.table) {
+        return None;
+    }
+    if column as usize >= columns_of(row.table).len() {
+        return None;
+    }
+    Some(tables.cell(row.table, row.row, column))
+}
+
+#[test]
+fn fields_up_to_wide_lists(rt: HostRuntime) -> Result<(), Fail> {
+    for (plus, fields) in [
+        (false, 65_535),
+        (false, 65_536),
+        (true, 65_535),
+        (true, 65_536),
+    ] {
+        let mut kit = Assembly::new(rt.alloc(), "m.dll")?;
+        for _ in 0..fields {
+            kit.row(0x04, &[0, 0, 0])?;
+        }
+        let mut draft = kit.draft()?;
+        draft.plus = plus;
+        let image = image(&rt, rt.alloc(), &draft)?;
+        let ran = run(&rt, rt.alloc(), &["names", "m.dll"], &image, NOTHING_FAILS)?;
+        assert_eq!(rt; ran.status, Status::Done);
+        assert_eq!(rt; ran.out.as_slice(), b"m.dll\n  <Module>\n".as_slice());
+    }
+    Ok(())
+}
+
+/// `class C : IEquatable<C> { public virtual final newslot bool Equals(C) { return false; } }`
+fn equatable(alloc: Global) -> Result<Assembly, AllocError> {
+    let mut kit = Assembly::new(alloc, "m.dll")?;
+    let object = kit.type_ref("System", "Object")?;
+    let equatable = kit.type_ref("System", "IEquatable`1")?;
+    let c = kit.define(types::CLASS, "", "C", object)?;
+    let of_c = class(alloc, c)?;
+    let interface = kit.type_spec(&instance(alloc, equatable, &[&of_c])?)?;
+    kit.implement(c, interface)?;
+    let flags = methods::PUBLIC | methods::VIRTUAL | methods::FINAL | methods::NEW_SLOT;
+    let signature = method(alloc, HAS_THIS, BOOLEAN, &[&of_c])?;
+    kit.method(flags, "Equals", &signature, Some(&[0x16, 0x2a]))?;
+    Ok(kit)
+}
+
+#[test]
+fn a_class_that_implements(rt: HostRuntime) -> Result<(), Fail> {
+    let draft = equatable(rt.alloc())?.draft()?;
+    let image = image(&rt, rt.alloc(), &draft)?;
+    let ran = run(&rt, rt.alloc(), &["names", "m.dll"], &image, NOTHING_FAILS)?;
+    assert_eq!(rt; ran.out.as_slice(), b"m.dll\n  <Module>\n  C\n".as_slice());
+    assert!(rt; image.len() >= 584);
+    let tables = Tables::read(&image[584..])?;
+    let equals = Row {
+        table: 0x06,
+        row: 1,
+    };
+    // The body is the end of the image: its RVA is 0x1e00 more than its place.
+    assert_eq!(rt;
+        cell(&tables, equals, 0),
+        Some(image.len() as u32 - 3 + 0x1e00)
+    );
+    let name = cell(&tables, equals, 3).unwrap_or(0);
+    assert_eq!(rt; tables.string(name), Ok("Equals"));
+    let signature = cell(&tables, equals, 4).unwrap_or(0);
+    assert_eq!(rt;
+        tables.blob(signature),
+        Ok([0x20, 1, 0x02, 0x12, 0x08].as_slice())
+    );
+    Ok(())
+}
+
+/// `class Outer { class Inner { } }` and `class Pair<T> { T first; int Count() { .. } }`
+fn nested_and_generic(alloc: Global) -> Result<Assembly, AllocError> {
+    let mut kit = Assembly::new(alloc, "m.dll")?;
+    let object = kit.type_ref("System", "Object")?;
+    let outer = kit.define(types::CLASS, "N", "Outer", object)?;
+    let inner = kit.define(types::CLASS, "", "Inner", object)?;
+    kit.nest(inner, outer)?;
+    let pair = kit.define(types::CLASS, "N", "Pair`1", object)?;
+    kit.parameter(pair, 0, "T")?;
+    kit.field(0, "first", &field(alloc, &var(alloc, 0)?)?)?;
+    let signature = method(alloc, HAS_THIS, INT32, &[])?;
+    kit.method(methods::PUBLIC, "Count", &signature, Some(&[0x00; 70]))?;
+    Ok(kit)
+}
+
+#[test]
+fn nested_and_generic_types(rt: HostRuntime) -> Result<(), Fail> {
+    let draft = nested_and_generic(rt.alloc())?.draft()?;
+    let image = image(&rt, rt.alloc(), &draft)?;
+    let ran = run(&rt, rt.alloc(), &["names", "m.dll"], &image, NOTHING_FAILS)?;
+    assert_eq!(rt;
+        ran.out.as_slice(),
+        b"m.dll\n  <Module>\n  N.Outer\n  N.Outer+Inner\n  N.Pair`1\n".as_slice()
+    );
+    assert!(rt; image.len() >= 584);
+    let tables = Tables::read(&image[584..])?;
+    // The field and the method belong to the last type.
+    for (table, row, column, want) in [
+        (0x02, 3, 4, 1),
+        (0x02, 4, 4, 1),
+        (0x02, 4, 5, 1),
+        (0x29, 1, 0, 3),
+        (0x29, 1, 1, 2),
+        (0x2a, 1, 2, 8),
+    ] {
+        assert_eq!(rt; cell(&tables, Row { table, row }, column), Some(want));
+    }
+    Ok(())
+}

@@ -1,0 +1,15 @@
+pub mod Appending
+pub mod Bits
+pub mod CellsRead
+pub mod FileRead
+pub mod Fitted
+pub mod Found
+pub mod ImageRead
+pub mod MetadataLengths
+pub mod MetadataRead
+pub mod Powers
+pub mod Shortness
+pub mod Sizes
+pub mod StreamHeaders
+pub mod TablesRead
+pub mod WrittenLengths
