@@ -7,15 +7,15 @@ use std::alloc::{AllocError, AllocFailed};
 use thiserror::Error;
 
 /// The first fault of a method body. Places count in bytes from the body's first byte.
+///
+/// `NotInProfile`, at place 0: the body needs what isn't executed here, sections behind its code (II.25.4.5). `BadBody`: the
+/// first byte that a body can't have there, or the body's length where it ends too soon. `Memory`: want of memory.
 #[derive(Clone, Copy, Debug, PartialEq, Eq, Error)]
 pub enum CodeFault {
-    /// The body needs what isn't executed here: sections behind its code (II.25.4.5), at place 0.
     #[error("not in the profile at {0}")]
     NotInProfile(u32),
-    /// The first byte that a body can't have there, or the body's length where it ends too soon.
     #[error("bad body at {0}")]
     BadBody(u32),
-    /// Want of memory.
     #[error("want of memory")]
     Memory,
 }

@@ -30,6 +30,7 @@ fn metadata(alloc: Global, at: usize, byte: u8) -> Result<Vec<u8>, AllocError> {
 }
 
 #[test]
+#[tactic(auto, unfolding(crate::specs::Schema::columns))]
 fn the_smallest_metadata(rt: HostRuntime) -> Result<(), Fail> {
     let meta = metadata(rt.alloc(), 0, b'B')?;
     let tables = Tables::read(&meta)?;

@@ -183,14 +183,23 @@ fn rows_that_are_refused(rt: HostRuntime) -> Result<(), Fail> {
         // GenericParam: a number, flags, the owner, a name
         (0x2a, 2, b"\0\0\0\0\x02\0\x01\0\0\0\0\0\x04\0\x01\0", good),
         (0x2a, 2, b"\0\0\0\0\x02\0\x01\0\x01\0\0\0\x02\0\x01\0", good),
-        (0x2a, 2, b"\0\0\0\0\x02\0\x01\0\x02\0\0\0\x02\0\x01\0", second),
+        (
+            0x2a,
+            2,
+            b"\0\0\0\0\x02\0\x01\0\x02\0\0\0\x02\0\x01\0",
+            second,
+        ),
         (0x2a, 1, b"\0\0\0\0\x03\0\x01\0", first),
         (0x2a, 1, b"\x01\0\0\0\x02\0\x0a\0", (FaultKind::BadText, 1)),
     ] {
         let meta = metadata_of(rt.alloc(), &stream(rt.alloc(), table, count, rows)?)?;
         let tables = Tables::read(&meta)?;
         let place = u64::from(table) * 16_777_216 + row;
-        let wanted = if row == 0 { Ok(()) } else { Err(Refusal::Fault(ImageFault { kind, place })) };
+        let wanted = if row == 0 {
+            Ok(())
+        } else {
+            Err(Refusal::Fault(ImageFault { kind, place }))
+        };
         assert_eq!(rt; check_rows(rt.alloc(), &tables), wanted);
     }
     Ok(())
@@ -219,7 +228,11 @@ fn runs_of_type_definitions(rt: HostRuntime) -> Result<(), Fail> {
         let tables = Tables::read(&meta)?;
         let place = 0x0200_0000 + row;
         let kind = FaultKind::BadIndex;
-        let wanted = if row == 0 { Ok(()) } else { Err(Refusal::Fault(ImageFault { kind, place })) };
+        let wanted = if row == 0 {
+            Ok(())
+        } else {
+            Err(Refusal::Fault(ImageFault { kind, place }))
+        };
         assert_eq!(rt; check_rows(rt.alloc(), &tables), wanted);
     }
     Ok(())
