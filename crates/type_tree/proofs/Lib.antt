@@ -1,6 +1,12 @@
 pub mod CanonLemmas
 pub mod Folds
+pub mod GrammarLemmas
+pub mod ListLoop
+pub mod PrintedLemmas
+pub mod ReadingLemmas
 pub mod SharedLemmas
 pub mod SubstLemmas
 pub mod SubstMeasureLemmas
+pub mod TextLemmas
+pub mod TreeReading
 pub mod Trees

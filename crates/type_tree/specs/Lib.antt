@@ -1,8 +1,11 @@
 pub mod Canon
 pub mod Kinds
 pub mod Measure
+pub mod ReadTexts
+pub mod Reading
 pub mod Same
 pub mod SameLaws
 pub mod Subst
 pub mod SubstMeasure
+pub mod Texts
 pub mod World

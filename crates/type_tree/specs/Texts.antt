@@ -1,0 +1,36 @@
+-- The text of a type tree.
+use Rattle.std.specs.Prelude.{ℕ, List, [], ◌∷◌, ◌++◌, codes, decimal, unwrap_or, slice_get, Option, Some, None}
+use Rattle.std.specs.List.{join_by}
+use Rattle.clr_base.specs.declared.ids.DefId.{DefId}
+use Rattle.clr_base.specs.declared.ids.NameId.{NameId}
+use Rattle.type_tree.specs.declared.tree.Ty.{Ty}
+use Rattle.type_tree.specs.declared.tree.Ty.TheOpen.{Ty-F}
+use Rattle.type_tree.specs.declared.tree.Ty.TheFolds.{fold-Ty}
+use Rattle.type_tree.specs.World.{Facts}
+
+-- the text of a name, the empty text where there is none with that number
+unfoldable pub name_text : Facts → NameId → List ℕ
+name_text w name = []
+
+-- the full name of a definition, the empty text where there is none with that number
+unfoldable pub full_name : Facts → DefId → List ℕ
+full_name w d = []
+
+-- what stands behind the name of a definition: its arguments in brackets, nothing where there are none
+abbrev pub bracketed : List (List ℕ) → List ℕ
+bracketed [] = []
+bracketed (text ∷ texts) = codes "[" ++ (join_by (λ t. t) (codes ",") (text ∷ texts) ++ codes "]")
+
+-- one level; each part is given by its text
+abbrev pub text_step : Facts → Ty-F (List ℕ) → List ℕ
+text_step w (Ty-F.Inst d parts) = full_name w d ++ bracketed parts
+text_step w (Ty-F.Array part) = part ++ codes "[]"
+text_step w (Ty-F.ByRef part) = part ++ codes "&"
+text_step w (Ty-F.Ptr part) = part ++ codes "*"
+text_step w (Ty-F.Var n) = codes "!" ++ decimal n
+text_step w (Ty-F.MVar n) = codes "!!" ++ decimal n
+text_step w (Ty-F.Missing name value) = name_text w name
+text_step w (Ty-F.Odd code) = codes "?"
+
+abbrev pub type_text : Facts → Ty → List ℕ
+type_text w = fold-Ty (List ℕ) (text_step w)
