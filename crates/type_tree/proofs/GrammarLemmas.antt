@@ -10,7 +10,7 @@ use Rattle.type_tree.specs.declared.tree.Ty.{Ty}
 use Rattle.type_tree.specs.declared.tree.Ty.TheVariants as ty
 use Rattle.type_tree.specs.World.{Facts}
 use Rattle.type_tree.specs.Measure.{depth, depth_of_all}
-use Rattle.type_tree.specs.ReadTexts.{first_named, is_mark, is_plain, is_name, Names, NamesArguments, NamesMore, Reads}
+use Rattle.type_tree.specs.ReadTexts.{is_mark, is_plain, is_name, Names, NamesArguments, NamesMore, Reads}
 use Rattle.type_tree.specs.ReadTexts as texts
 use Rattle.type_tree.specs.Reading.{IsSplit, IsDefinition, begins_with, is_past_name, list_at, array_at, arrays, in_arrays, AreArrays, is_end, BeginsList, BeginsArguments, BeginsTree, Begins}
 use Rattle.type_tree.specs.Reading as reading

@@ -7,9 +7,10 @@ use Rattle.type_tree.specs.declared.tree.Ty.{Ty}
 use Rattle.type_tree.specs.declared.tree.Ty.TheOpen.{Ty-F}
 use Rattle.type_tree.specs.declared.tree.Ty.TheVariants as ty
 use Rattle.type_tree.specs.World.{Facts}
+use Rattle.type_tree.specs.Lookup.{first_named, full_name}
 use Rattle.type_tree.specs.Measure.{depth}
-use Rattle.type_tree.specs.Texts.{full_name, bracketed, type_text}
-use Rattle.type_tree.specs.ReadTexts.{first_named, is_name, is_that, names_itself, readable_step, is_readable, Names, NamesArguments, NamesMore, Reads}
+use Rattle.type_tree.specs.Texts.{bracketed, type_text}
+use Rattle.type_tree.specs.ReadTexts.{is_name, is_that, names_itself, readable_step, is_readable, Names, NamesArguments, NamesMore, Reads}
 use Rattle.type_tree.specs.ReadTexts as texts
 use Rattle.type_tree.proofs.Folds.{Known, trees, by_variants, fold-Inst, fold-Array, fold-ByRef, fold-Ptr, fold-Var, fold-MVar, fold-Missing, fold-Odd}
 use Rattle.type_tree.proofs.TextLemmas.{text-Inst, text-Array}

@@ -6,8 +6,9 @@ use Rattle.clr_base.specs.declared.ids.DefId.{DefId}
 use Rattle.type_tree.specs.declared.tree.Ty.{Ty}
 use Rattle.type_tree.specs.declared.tree.Ty.TheVariants as ty
 use Rattle.type_tree.specs.World.{Facts}
+use Rattle.type_tree.specs.Lookup.{first_named}
 use Rattle.type_tree.specs.Measure.{depth, depth_of_all}
-use Rattle.type_tree.specs.ReadTexts.{first_named, is_mark, is_plain}
+use Rattle.type_tree.specs.ReadTexts.{is_mark, is_plain}
 use Rattle.type_tree.specs.Reading.{IsSplit, IsDefinition, is_past_name, begins_with, list_at, array_at, arrays, in_arrays, AreArrays, is_end, BeginsList, BeginsArguments, BeginsTree, Begins, last, next, none, some}
 
 -- a mark stands in no name

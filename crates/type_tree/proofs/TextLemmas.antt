@@ -8,7 +8,8 @@ use Rattle.type_tree.specs.declared.tree.Ty.{Ty}
 use Rattle.type_tree.specs.declared.tree.Ty.TheOpen.{Ty-F}
 use Rattle.type_tree.specs.declared.tree.Ty.TheVariants as ty
 use Rattle.type_tree.specs.World.{Facts}
-use Rattle.type_tree.specs.Texts.{full_name, name_text, bracketed, text_step, type_text}
+use Rattle.type_tree.specs.Lookup.{full_name, name_text}
+use Rattle.type_tree.specs.Texts.{bracketed, text_step, type_text}
 use Rattle.type_tree.proofs.Folds.{fold-Inst, fold-Array, fold-ByRef, fold-Ptr, fold-Var, fold-MVar, fold-Missing, fold-Odd}
 
 module _ (w : Facts) where

@@ -8,7 +8,7 @@ use Rattle.type_tree.specs.declared.read_text.Stop.{Stop}
 use Rattle.type_tree.specs.declared.read_text.Stop.TheVariants as stop
 use Rattle.type_tree.specs.World.{Facts}
 use Rattle.type_tree.specs.Measure.{depth, depth_step, depth_of_all, largest}
-use Rattle.type_tree.specs.ReadTexts.{first_named, is_mark, is_plain}
+use Rattle.type_tree.specs.ReadTexts.{is_mark, is_plain}
 use Rattle.type_tree.specs.Reading.{IfRefused, Answers, IsSplit, IsDefinition, is_past_name, behind, list_at, array_at, arrays, in_arrays, AreArrays, is_end, BeginsList, BeginsArguments, BeginsTree, Begins, last, next, none, some}
 use Rattle.type_tree.proofs.Folds.{fold-Inst, fold-Array}
 use Rattle.type_tree.proofs.ReadingLemmas.{split_unique, arrays_unique, arguments_one, begins_one, shallow}

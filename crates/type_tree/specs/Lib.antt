@@ -1,5 +1,6 @@
 pub mod Canon
 pub mod Kinds
+pub mod Lookup
 pub mod Measure
 pub mod ReadTexts
 pub mod Reading

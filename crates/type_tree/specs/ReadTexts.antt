@@ -8,11 +8,7 @@ use Rattle.type_tree.specs.declared.tree.Ty.TheVariants as ty
 use Rattle.type_tree.specs.declared.tree.Ty.TheFolds.{fold-Ty}
 use Rattle.type_tree.specs.World.{Facts}
 use Rattle.type_tree.specs.Measure.{depth}
-use Rattle.type_tree.specs.Texts.{full_name}
-
--- the first definition of a full name: among those of the files, in order, then in the core
-unfoldable pub first_named : Facts → List ℕ → Option DefId
-first_named w name = None
+use Rattle.type_tree.specs.Lookup.{full_name, first_named}
 
 -- `[`, `]` and `,` stand in no name
 abbrev pub is_mark : ℕ → Bool

@@ -7,8 +7,9 @@ use Rattle.type_tree.specs.declared.tree.Ty.TheVariants as ty
 use Rattle.type_tree.specs.declared.read_text.Stop.{Stop}
 use Rattle.type_tree.specs.declared.read_text.Stop.TheVariants as stop
 use Rattle.type_tree.specs.World.{Facts}
+use Rattle.type_tree.specs.Lookup.{first_named}
 use Rattle.type_tree.specs.Measure.{depth}
-use Rattle.type_tree.specs.ReadTexts.{first_named, is_mark, is_plain}
+use Rattle.type_tree.specs.ReadTexts.{is_mark, is_plain}
 
 abbrev pub IfRefused : Stop → Type 0 → Type 0
 IfRefused stop.Refused P = P

@@ -1,20 +1,11 @@
 -- The text of a type tree.
-use Rattle.std.specs.Prelude.{ℕ, List, [], ◌∷◌, ◌++◌, codes, decimal, unwrap_or, slice_get, Option, Some, None}
+use Rattle.std.specs.Prelude.{ℕ, List, [], ◌∷◌, ◌++◌, codes, decimal}
 use Rattle.std.specs.List.{join_by}
-use Rattle.clr_base.specs.declared.ids.DefId.{DefId}
-use Rattle.clr_base.specs.declared.ids.NameId.{NameId}
 use Rattle.type_tree.specs.declared.tree.Ty.{Ty}
 use Rattle.type_tree.specs.declared.tree.Ty.TheOpen.{Ty-F}
 use Rattle.type_tree.specs.declared.tree.Ty.TheFolds.{fold-Ty}
+use Rattle.type_tree.specs.Lookup.{full_name, name_text}
 use Rattle.type_tree.specs.World.{Facts}
-
--- the text of a name, the empty text where there is none with that number
-unfoldable pub name_text : Facts → NameId → List ℕ
-name_text w name = []
-
--- the full name of a definition, the empty text where there is none with that number
-unfoldable pub full_name : Facts → DefId → List ℕ
-full_name w d = []
 
 -- what stands behind the name of a definition: its arguments in brackets, nothing where there are none
 abbrev pub bracketed : List (List ℕ) → List ℕ

@@ -9,6 +9,7 @@ ghost use Rattle.type_tree.specs.ReadTexts as texts;
 ghost use Rattle.type_tree.specs.Reading as spec;
 ghost use Rattle.type_tree.specs.declared.read_text.Stop.TheVariants as stop;
 
+use crate::lookup::find_named;
 use crate::measure::depth_of_all;
 use crate::tree::{Ty, TyList};
 use crate::world::World;
@@ -50,13 +51,6 @@ impl From<Memory> for Stop {
     fn from(_error: Memory) -> Stop {
         Stop::Memory
     }
-}
-
-/// The first definition of that full name: among those of the files, then in the core.
-fn find_named(_world: &World, _name: &[u8]) -> Option<DefId>
-    ensures { result ≡ texts.first_named _world.now _name.now }
-{
-    None
 }
 
 /// `[`, `]` and `,` stand in no name.

@@ -3,33 +3,19 @@
 ghost use Rattle.std.specs.Prelude.{◌≡◌, ◌++◌, ◌<◌, ◌≤◌, map, decimal, IfOk, OnOk};
 ghost use Rattle.type_tree.specs.Texts as spec;
 
+use crate::lookup::{full_name, name_text};
 use crate::tree::Ty;
 use crate::world::World;
-use clr_base::{DefId, Memory, NameId, Text};
+use clr_base::{Memory, Text};
 use itoa::Buffer;
 use std::alloc::Global;
-
-/// The text of a name.
-fn name_text(_world: &World, _name: NameId) -> &str
-    ensures { result.now ≡ spec.name_text _world.now _name }
-{
-    ""
-}
-
-/// The full name of a definition.
-fn full_name(_world: &World, _def: DefId) -> &str
-    ensures { result.now ≡ spec.full_name _world.now _def }
-{
-    ""
-}
 
 /// Appends a number in decimal digits.
 fn push_number(text: &mut Text, number: u32) -> Result<(), Memory>
     ensures { OnOk result (text.new ≡ text.old ++ decimal number) }
 {
     let mut digits = Buffer::new();
-    text.push_str(digits.format(number))?;
-    Ok(())
+    Ok(text.push_str(digits.format(number))?)
 }
 
 /// Appends the text of a tree.
@@ -65,8 +51,7 @@ fn push_with_suffix(text: &mut Text, world: &World, t: &Ty, suffix: &str) -> Res
     ensures { OnOk result (text.new ≡ text.old ++ (spec.type_text world.now t.now ++ suffix.now)) }
 {
     push_tree(text, world, t)?;
-    text.push_str(suffix)?;
-    Ok(())
+    Ok(text.push_str(suffix)?)
 }
 
 /// Appends arguments in brackets, nothing where there are none.
@@ -77,12 +62,11 @@ fn push_arguments(text: &mut Text, world: &World, args: &[Ty]) -> Result<(), Mem
     if args.is_empty() {
         return Ok(());
     }
-    for (i, t) in args.iter().enumerate() {
+    for (i, arg) in args.iter().enumerate() {
         text.push_str(if i == 0 { "[" } else { "," })?;
-        push_tree(text, world, t)?;
+        push_tree(text, world, arg)?;
     }
-    text.push_str("]")?;
-    Ok(())
+    Ok(text.push_str("]")?)
 }
 
 /// The text of a tree: a definition's full name with the arguments in brackets, `[]` behind an array's element, `*`
