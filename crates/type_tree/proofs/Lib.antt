@@ -4,3 +4,4 @@ pub mod SharedLemmas
 pub mod SubstLemmas
 pub mod SubstMeasureLemmas
 pub mod Trees
+pub mod WholeLemmas

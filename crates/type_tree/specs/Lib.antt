@@ -1,8 +1,12 @@
+pub mod Bodies
 pub mod Canon
+pub mod Fits
 pub mod Kinds
 pub mod Measure
 pub mod Same
 pub mod SameLaws
 pub mod Subst
 pub mod SubstMeasure
+pub mod Tokens
+pub mod Whole
 pub mod World
