@@ -62,8 +62,13 @@ module _ (w : Facts) where
         let f = front s t (44 ∷ others) h in
         let g = list_front hs in
         record {
-          text = f.0; others = codes "," ++ (g.text ++ g.others); head = t; tail = g.head ∷ g.tail; names = f.1;
-          more = texts.more g.text g.others g.head g.tail g.names g.more; trees = ap (λ us. t ∷ us) g.trees;
+          text = f.0;
+          others = codes "," ++ (g.text ++ g.others);
+          head = t;
+          tail = g.head ∷ g.tail;
+          names = f.1;
+          more = texts.more g.text g.others g.head g.tail g.names g.more;
+          trees = ap (λ us. t ∷ us) g.trees;
           whole = f.2 ∙ ap (λ o. f.0 ++ (44 ∷ o)) (g.whole ∙ sym (append_assoc g.text g.others (93 ∷ r)));
         }
 
@@ -74,7 +79,7 @@ module _ (w : Facts) where
         let args = codes "[" ++ (g.text ++ (g.others ++ codes "]")) in
         let named : NamesArguments w (codes "[" ++ (g.text ++ (g.others ++ codes "]"))) ts = subst (λ us. NamesArguments w (codes "[" ++ (g.text ++ (g.others ++ codes "]"))) us) (sym g.trees) (texts.some g.text g.others g.head g.tail g.names g.more) in
         let closed : g.text ++ (g.others ++ (93 ∷ r)) ≡ (g.text ++ (g.others ++ codes "]")) ++ r =
-            ap (λ o. g.text ++ o) (sym (append_assoc g.others (codes "]") r)) ∙ sym (append_assoc g.text (g.others ++ codes "]") r) in
+        ap (λ o. g.text ++ o) (sym (append_assoc g.others (codes "]") r)) ∙ sym (append_assoc g.text (g.others ++ codes "]") r) in
         (args, named, list_at-some s inner e ∙ ap (λ i. 91 ∷ i) (g.whole ∙ closed))
 
     tree_front : {s : List ℕ} {t : Ty} {r : List ℕ} → BeginsTree w One s t r → (text : List ℕ) × Names w text t × (s ≡ text ++ r)
@@ -83,8 +88,8 @@ module _ (w : Facts) where
         let plain : Names w (h.name ++ a.0) (ty.Inst h.def h.args) = texts.definition h.name a.0 h.def h.args (name_is h.name h.split.plain h.definition.some) h.definition.named a.1 in
         let named : Names w ((h.name ++ a.0) ++ arrays h.count) t = subst (λ u. Names w ((h.name ++ a.0) ++ arrays h.count) u) (sym h.tree) (names_arrays h.count (h.name ++ a.0) (ty.Inst h.def h.args) plain) in
         let whole : s ≡ ((h.name ++ a.0) ++ arrays h.count) ++ r =
-            h.split.whole ∙ ap (λ p. h.name ++ p) (a.2 ∙ ap (λ p. a.0 ++ p) h.suffix.whole)
-            ∙ sym (append_assoc h.name a.0 (arrays h.count ++ r)) ∙ sym (append_assoc (h.name ++ a.0) (arrays h.count) r) in
+        h.split.whole ∙ ap (λ p. h.name ++ p) (a.2 ∙ ap (λ p. a.0 ++ p) h.suffix.whole)
+        ∙ sym (append_assoc h.name a.0 (arrays h.count ++ r)) ∙ sym (append_assoc (h.name ++ a.0) (arrays h.count) r) in
         ((h.name ++ a.0) ++ arrays h.count, named, whole)
 
   pub begins_front : (n : ℕ) → IsFront (Begins w n)
@@ -161,18 +166,28 @@ module _ (w : Facts) where
 
   mutual
     unfolding Begins
+
     pub names_begin : {text : List ℕ} {t : Ty} → Names w text t → (n k : ℕ) (r : List ℕ) → depth (in_arrays k t) ≤ n → IsTrue (is_end r) → Begins w n (text ++ (arrays k ++ r)) (in_arrays k t) r
     names_begin (texts.definition name args d ts is named a) zero k r low end = absurd (omega (arith, low, deep k d ts))
     names_begin (texts.definition name args d ts is named a) (suc n) k r low end =
         let parts = parts_of_name name is in
-        let all_low : depth_of_all ts ≤ n = omega (arith, low, deep k d ts) in
-        (record {
-          name = name; past_name = args ++ (arrays k ++ r);
-          split = record { whole = append_assoc name args (arrays k ++ r); plain = parts.0; past = arguments_are_past a (arrays k ++ r) (arrays_are_past k r end) };
-          def = d; definition = record { some = parts.1; named = named };
-          args = ts; past_args = arrays k ++ r; arguments = arguments_begin a n (arrays k ++ r) all_low (arrays_open_no_list k r end);
-          count = k; suffix = record { whole = refl; no_more = end_opens_no_array r end }; end = end; tree = refl;
-        }, low)
+        let all_low : depth_of_all ts ≤ n = omega (arith, low, deep k d ts) in (
+          record {
+            name = name;
+            past_name = args ++ (arrays k ++ r);
+            split = record { whole = append_assoc name args (arrays k ++ r); plain = parts.0; past = arguments_are_past a (arrays k ++ r) (arrays_are_past k r end) };
+            def = d;
+            definition = record { some = parts.1; named = named };
+            args = ts;
+            past_args = arrays k ++ r;
+            arguments = arguments_begin a n (arrays k ++ r) all_low (arrays_open_no_list k r end);
+            count = k;
+            suffix = record { whole = refl; no_more = end_opens_no_array r end };
+            end = end;
+            tree = refl;
+          },
+          low,
+        )
     names_begin (texts.array text t h) n k r low end =
         let inner : Begins w n (text ++ (arrays (suc k) ++ r)) (in_arrays (suc k) t) r = names_begin h n (suc k) r (subst (λ u. depth u ≤ n) (in_arrays-Array k t) low) end in
         let whole : text ++ (arrays (suc k) ++ r) ≡ (text ++ codes "[]") ++ (arrays k ++ r) = sym (append_assoc text (codes "[]") (arrays k ++ r)) in
@@ -185,7 +200,7 @@ module _ (w : Facts) where
         let opened : list_at (91 ∷ (text ++ (others ++ (93 ∷ r)))) ≡ Some (text ++ (others ++ (93 ∷ r))) = ap (λ x. cond (not x) (Some (text ++ (others ++ (93 ∷ r)))) None) (starts_plain h (others ++ (93 ∷ r))) in
         let closed : (text ++ (others ++ codes "]")) ++ r ≡ text ++ (others ++ (93 ∷ r)) = append_assoc text (others ++ codes "]") r ∙ ap (λ o. text ++ o) (append_assoc others (codes "]") r) in
         subst (λ s. BeginsArguments (Begins w n) (91 ∷ s) (t ∷ ts) r) (sym closed)
-            (reading.some (91 ∷ inner) inner (t ∷ ts) r opened (more_begin hs n text t (omega (arith, low)) (λ q end. names_begin h n 0 q (omega (arith, low)) end) r))
+        (reading.some (91 ∷ inner) inner (t ∷ ts) r opened (more_begin hs n text t (omega (arith, low)) (λ q end. names_begin h n 0 q (omega (arith, low)) end) r))
 
     pub more_begin : {others : List ℕ} {us : List Ty} → NamesMore w others us → (n : ℕ) (text : List ℕ) (t : Ty) → depth_of_all us ≤ n
         → ((q : List ℕ) → IsTrue (is_end q) → Begins w n (text ++ q) t q) → (r : List ℕ) → BeginsList (Begins w n) (text ++ (others ++ (93 ∷ r))) (t ∷ us) r
@@ -194,7 +209,7 @@ module _ (w : Facts) where
         let rest : List ℕ = text2 ++ (others2 ++ (93 ∷ r)) in
         let whole : (text2 ++ others2) ++ (93 ∷ r) ≡ text2 ++ (others2 ++ (93 ∷ r)) = append_assoc text2 others2 (93 ∷ r) in
         subst (λ s. BeginsList (Begins w n) (text ++ (44 ∷ s)) (t ∷ t2 ∷ ts) r) (sym whole)
-            (reading.next (text ++ (44 ∷ rest)) t rest (t2 ∷ ts) r (one (44 ∷ rest) refl) (more_begin hs n text2 t2 (omega (arith, low)) (λ q end. names_begin h n 0 q (omega (arith, low)) end) r))
+        (reading.next (text ++ (44 ∷ rest)) t rest (t2 ∷ ts) r (one (44 ∷ rest) refl) (more_begin hs n text2 t2 (omega (arith, low)) (λ q end. names_begin h n 0 q (omega (arith, low)) end) r))
 
   pub reads_begins : (s : List ℕ) (t : Ty) → Reads w s t → Begins w 64 s t []
   reads_begins s t h = subst (λ p. Begins w 64 p t []) (append-nil s) (names_begin h.names 64 0 [] h.shallow refl)

@@ -2,6 +2,7 @@ pub mod CanonLemmas
 pub mod Folds
 pub mod GrammarLemmas
 pub mod ListLoop
+pub mod LookupLemmas
 pub mod PrintedLemmas
 pub mod ReadingLemmas
 pub mod SharedLemmas
@@ -10,3 +11,4 @@ pub mod SubstMeasureLemmas
 pub mod TextLemmas
 pub mod TreeReading
 pub mod Trees
+pub mod WholeLemmas

@@ -15,6 +15,7 @@ use Rattle.type_tree.specs.ReadTexts as texts
 use Rattle.type_tree.proofs.Folds.{Known, trees, by_variants, fold-Inst, fold-Array, fold-ByRef, fold-Ptr, fold-Var, fold-MVar, fold-Missing, fold-Odd}
 use Rattle.type_tree.proofs.TextLemmas.{text-Inst, text-Array}
 use Rattle.type_tree.proofs.GrammarLemmas.{names_one}
+use Rattle.type_tree.proofs.LookupLemmas.{first_named-name}
 
 module _ (w : Facts) where
   found_by_name : (d : DefId) (o : Option DefId) → IsTrue (is_that d o) → o ≡ Some d
@@ -36,7 +37,7 @@ module _ (w : Facts) where
   more_printed (p ∷ ps) h =
       let both = and_parts (is_readable w p.0) (list_all (λ b. b) (map (is_readable w) (trees Printed ps))) h in
       subst (λ s. NamesMore w s (p.0 ∷ trees Printed ps)) (sym (append_assoc (codes ",") (type_text w p.0) (tail_text (trees Printed ps))))
-          (texts.more (type_text w p.0) (tail_text (trees Printed ps)) p.0 (trees Printed ps) (p.1 both.0) (more_printed ps both.1))
+      (texts.more (type_text w p.0) (tail_text (trees Printed ps)) p.0 (trees Printed ps) (p.1 both.0) (more_printed ps both.1))
 
   arguments_printed : (ps : List (Known Printed)) → IsTrue (list_all (λ p. p) (map (is_readable w) (trees Printed ps))) → NamesArguments w (bracketed (map (type_text w) (trees Printed ps))) (trees Printed ps)
   unfolding tail_text
@@ -45,7 +46,7 @@ module _ (w : Facts) where
       let both = and_parts (is_readable w p.0) (list_all (λ b. b) (map (is_readable w) (trees Printed ps))) h in
       let more = more_printed ps both.1 in
       subst (λ s. NamesArguments w (codes "[" ++ s) (p.0 ∷ trees Printed ps)) (sym (append_assoc (type_text w p.0) (tail_text (trees Printed ps)) (codes "]")))
-          (texts.some (type_text w p.0) (tail_text (trees Printed ps)) p.0 (trees Printed ps) (p.1 both.0) more)
+      (texts.some (type_text w p.0) (tail_text (trees Printed ps)) p.0 (trees Printed ps) (p.1 both.0) more)
 
   inst_printed : (d : DefId) (ps : List (Known Printed)) → Printed (ty.Inst d (trees Printed ps))
   inst_printed d ps h =
@@ -54,7 +55,7 @@ module _ (w : Facts) where
       let both = and_parts (names_itself w d) (list_all (λ p. p) (map (is_readable w) ts)) free in
       let own = and_parts (is_name (full_name w d)) (is_that d (first_named w (full_name w d))) both.0 in
       subst (λ s. Names w s (ty.Inst d ts)) (sym (text-Inst w d ts))
-          (texts.definition (full_name w d) (bracketed (map (type_text w) ts)) d ts own.0 (found_by_name d (first_named w (full_name w d)) own.1) (arguments_printed ps both.1))
+      (texts.definition (full_name w d) (bracketed (map (type_text w) ts)) d ts own.0 (found_by_name d (first_named w (full_name w d)) own.1) (arguments_printed ps both.1))
 
   pub printed : (t : Ty) → Printed t
   printed = by_variants Printed (record {
@@ -67,10 +68,6 @@ module _ (w : Facts) where
     missing = λ name value h. absurd (let off = sym (fold-Missing Bool (readable_step w) name value) ∙ h in cc);
     odd = λ code h. absurd (let off = sym (fold-Odd Bool (readable_step w) code) ∙ h in cc);
   })
-
--- a definition that is found has the name that it was looked up by
-pub first_named-name : (w : Facts) (name : List ℕ) (d : DefId) → first_named w name ≡ Some d → full_name w d ≡ name
-first_named-name w name d e = ?
 
 module _ (w : Facts) where
   mutual
@@ -89,9 +86,10 @@ module _ (w : Facts) where
     arguments_are_printed texts.none = (refl, refl)
     arguments_are_printed (texts.some text others t ts h hs) =
         let first = names_printed h in
-        let rest = more_are_printed hs in
-        (ap (λ s. codes "[" ++ s) (append_assoc (type_text w t) (flat_map (λ u. codes "," ++ u) (map (type_text w) ts)) (codes "]") ∙ ap₂ (λ a b. a ++ (b ++ codes "]")) first.0 rest.0),
-          ap₂ ◌&&◌ first.1 rest.1)
+        let rest = more_are_printed hs in (
+          ap (λ s. codes "[" ++ s) (append_assoc (type_text w t) (flat_map (λ u. codes "," ++ u) (map (type_text w) ts)) (codes "]") ∙ ap₂ (λ a b. a ++ (b ++ codes "]")) first.0 rest.0),
+          ap₂ ◌&&◌ first.1 rest.1,
+        )
 
     more_are_printed : {others : List ℕ} {ts : List Ty} → NamesMore w others ts → (flat_map (λ u. codes "," ++ u) (map (type_text w) ts) ≡ others) × IsTrue (list_all (λ p. p) (map (is_readable w) ts))
     more_are_printed texts.no_more = (refl, refl)
@@ -104,6 +102,7 @@ module _ (w : Facts) where
   names_iff t text = ((λ h. names_printed h), (λ p. subst (λ s. Names w s t) p.0 (printed w t p.1)))
 
   pub read_back : (t u : Ty) → IsTrue (is_readable w t) → depth t ≤ 64 → Reads w (type_text w t) u ↔ (u ≡ t)
-  read_back t u h low =
-      ((λ r. names_one w (type_text w t) u t r.names (printed w t h)),
-        (λ e. subst (λ v. Reads w (type_text w t) v) (sym e) (record { names = printed w t h; shallow = low })))
+  read_back t u h low = (
+    (λ r. names_one w (type_text w t) u t r.names (printed w t h)),
+    (λ e. subst (λ v. Reads w (type_text w t) v) (sym e) (record { names = printed w t h; shallow = low })),
+  )

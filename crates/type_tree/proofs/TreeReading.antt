@@ -161,8 +161,18 @@ module _ (w : Facts) (levels n : ℕ) (is : levels ≡ suc n) where
       unfolding Begins
       found {d = d} definition end lt =
           let tree : BeginsTree w (Begins w n) s (in_arrays count (ty.Inst d ts)) behind = record {
-            name = name; past_name = rest; split = split; def = d; definition = definition; args = ts; past_args = past; arguments = arguments;
-            count = count; suffix = suffix; end = end; tree = refl;
+            name = name;
+            past_name = rest;
+            split = split;
+            def = d;
+            definition = definition;
+            args = ts;
+            past_args = past;
+            arguments = arguments;
+            count = count;
+            suffix = suffix;
+            end = end;
+            tree = refl;
           } in
           let low : depth (in_arrays count (ty.Inst d ts)) ≤ suc n = omega (arith, deep count d ts, lt, is) in
           subst (λ m. Begins w m s (in_arrays count (ty.Inst d ts)) behind) (sym is) (tree, low)

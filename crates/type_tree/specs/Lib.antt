@@ -1,4 +1,6 @@
+pub mod Bodies
 pub mod Canon
+pub mod Fits
 pub mod Kinds
 pub mod Lookup
 pub mod Measure
@@ -9,4 +11,6 @@ pub mod SameLaws
 pub mod Subst
 pub mod SubstMeasure
 pub mod Texts
+pub mod Tokens
+pub mod Whole
 pub mod World

@@ -1,28 +1,18 @@
-//! A world: its definitions, and the few that the rules name.
+//! A world: the definitions, members, names and signatures of a program, each at its number.
 
-ghost use Rattle.std.specs.Prelude.{◌≡◌, ◌<◌, length, slice_get};
-ghost use Rattle.type_tree.specs.Kinds as spec;
+ghost use Rattle.std.specs.Prelude.{◌≡◌, ◌<◌, length, slice_get, IsTrue};
+ghost use Rattle.type_tree.specs.Fits.{def_fits};
+ghost use Rattle.type_tree.specs.Whole.{IsWhole, counts};
 
-use crate::tree::Ty;
+use crate::definition::Def;
+use crate::parts::WorldParts;
 use clr_base::{DefId, NameId};
-use sqlite_items::{Items, at};
 use std::marker::Model;
 
-/// A type definition (ECMA-335 II.22.37).
-#[derive(Debug, Drop)]
-pub struct Def {
-    pub name: NameId,
-    /// What it extends, in its own generic parameters.
-    pub parent: Option<Ty>,
-}
-
-/// The definitions, and the numbers of System.ValueType, System.Enum and System.__Canon.
+/// A world. Contracts see it as its parts.
 #[derive(Debug, Drop)]
 pub struct World {
-    defs: Items<Def>,
-    value_type: DefId,
-    enumeration: DefId,
-    canon: DefId,
+    parts: WorldParts,
 }
 
 impl Model for World {
@@ -34,81 +24,88 @@ impl Model for World {
 
     ghost coded = { Prim.hlevel (codes, ty.the_row.coded) };
 
-    ghost view = { λ w. record { defs = w.defs; value_type = w.value_type; enumeration = w.enumeration; canon = w.canon } };
+    ghost use Rattle.type_tree.specs.Whole.{IsWhole};
+
+    ghost view = { λ w. w.parts };
+
+    ghost invariant = { λ w. IsWhole w.parts };
+}
+
+/// The item at a place.
+fn nth<T>(items: &[T], at: usize) -> &T
+    requires { at < length items.now }
+    ensures { slice_get items.now at ≡ Some result.now }
+{
+    &items[at]
 }
 
 impl World {
-    pub fn new(defs: Items<Def>, value_type: DefId, enumeration: DefId, canon: DefId) -> World
-        ensures { result ≡ record { defs = defs; value_type = value_type; enumeration = enumeration; canon = canon } }
+    /// The world of some parts, which `is_whole` judges.
+    pub fn new(parts: WorldParts) -> World
+        requires { IsWhole parts }
+        ensures { result ≡ parts }
     {
-        World {
-            defs,
-            value_type,
-            enumeration,
-            canon,
-        }
+        World { parts }
+    }
+
+    /// How many definitions there are.
+    #[tactic(auto, using(crate::proofs::WholeLemmas::few))]
+    pub fn def_count(&self) -> u32
+        ensures { result ≡ length self.now.defs }
+    {
+        self.parts.defs.len() as u32
+    }
+
+    /// How many names there are.
+    #[tactic(auto, using(crate::proofs::WholeLemmas::few))]
+    pub fn name_count(&self) -> u32
+        ensures { result ≡ length self.now.names }
+    {
+        self.parts.names.len() as u32
     }
 
     /// The definition with a number.
     pub fn def(&self, id: DefId) -> &Def
         requires { id.0 < length self.now.defs }
-        ensures { slice_get self.now.defs id.0 ≡ Some result.now }
+        ensures value { slice_get self.now.defs id.0 ≡ Some result.now }
+        ensures fits { IsTrue (def_fits (counts self.now) result.now) }
     {
-        &self.defs.as_slice()[id.0 as usize]
+        nth(self.parts.defs.as_slice(), id.0 as usize)
+    }
+
+    /// The text of a name.
+    pub fn name(&self, id: NameId) -> &str
+        requires { id.0 < length self.now.names }
+        ensures { slice_get self.now.names id.0 ≡ Some result.now }
+    {
+        nth(self.parts.names.as_slice(), id.0 as usize).as_str()
+    }
+
+    /// System.ValueType.
+    pub fn value_type(&self) -> DefId
+        ensures { result ≡ self.now.value_type }
+    {
+        self.parts.value_type
+    }
+
+    /// System.Enum.
+    pub fn enumeration(&self) -> DefId
+        ensures { result ≡ self.now.enumeration }
+    {
+        self.parts.enumeration
     }
 
     /// System.__Canon, which stands for every reference type.
     pub fn canon(&self) -> DefId
         ensures { result ≡ self.now.canon }
     {
-        self.canon
+        self.parts.canon
     }
 
-    /// Whether the definition is a value type: its parent is System.ValueType (System.Enum itself
-    /// excepted) or System.Enum. A number that no definition has is none.
-    pub fn is_value_def(&self, id: DefId) -> bool
-        ensures { result ≡ spec.is_value_def self.now id }
+    /// The definitions, each at its number.
+    pub(crate) fn defs(&self) -> &[Def]
+        ensures { result.now ≡ self.now.defs }
     {
-        match at(self.defs.as_slice(), id.0 as usize) {
-            Some(def) => self.makes_value(id, def),
-            None => false,
-        }
-    }
-
-    /// Whether its parent makes a definition with this number a value type.
-    fn makes_value(&self, id: DefId, def: &Def) -> bool
-        ensures { result ≡ spec.is_value_parent self.now id (spec.head_of def.now.parent) }
-    {
-        match &def.parent {
-            Some(Ty::Inst(parent, _)) => {
-                parent.0 == self.enumeration.0
-                    || parent.0 == self.value_type.0 && id.0 != self.enumeration.0
-            }
-            _ => false,
-        }
-    }
-}
-
-/// Whether the tree is a value type. A variable, a pointer and a form that is left out are neither
-/// a value type nor a reference type.
-pub fn is_value(world: &World, t: &Ty) -> bool
-    ensures { result ≡ spec.is_value world.now t.now }
-{
-    match t {
-        Ty::Inst(def, _) => world.is_value_def(*def),
-        Ty::Missing(_, value) => *value,
-        Ty::Array(_) | Ty::ByRef(_) | Ty::Ptr(_) | Ty::Var(_) | Ty::MVar(_) | Ty::Odd(_) => false,
-    }
-}
-
-/// Whether the tree is a reference type.
-pub fn is_reference(world: &World, t: &Ty) -> bool
-    ensures { result ≡ spec.is_reference world.now t.now }
-{
-    match t {
-        Ty::Inst(def, _) => !world.is_value_def(*def),
-        Ty::Array(_) => true,
-        Ty::Missing(_, value) => !*value,
-        Ty::ByRef(_) | Ty::Ptr(_) | Ty::Var(_) | Ty::MVar(_) | Ty::Odd(_) => false,
+        self.parts.defs.as_slice()
     }
 }

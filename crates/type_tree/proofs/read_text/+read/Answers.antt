@@ -51,7 +51,7 @@ list-returns-in-None-behind t c =
     let n = c.args.levels in
     let after = c.in_ok-one.after.now in
     no_mark (spec.Begins w n) (begins_one w n) c.in_ok-one.one after c.loop-done.invariant c.in_ok-one.ensures
-        (behind-none 93 after (sym c.in-None-behind.ensures)) (behind-none 44 after (sym c.in-None.ensures))
+    (behind-none 93 after (sym c.in-None-behind.ensures)) (behind-none 44 after (sym c.in-None.ensures))
 
 pub tree-returns-then-levels-eq0 : goal.tree-returns-then-levels-eq0
 tree-returns-then-levels-eq0 t c = no_levels c.args.world.now c.args.levels c.if-levels-eq0.true c.args.text.now
