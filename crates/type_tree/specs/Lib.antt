@@ -1,5 +1,6 @@
 pub mod Bodies
 pub mod Canon
+pub mod Context
 pub mod Fits
 pub mod Kinds
 pub mod Measure
@@ -8,5 +9,6 @@ pub mod SameLaws
 pub mod Subst
 pub mod SubstMeasure
 pub mod Tokens
+pub mod UserStrings
 pub mod Whole
 pub mod World
