@@ -1,3 +1,4 @@
+pub mod Bounds
 pub mod CanonLemmas
 pub mod Folds
 pub mod GrammarLemmas
@@ -9,6 +10,7 @@ pub mod SharedLemmas
 pub mod SubstLemmas
 pub mod SubstMeasureLemmas
 pub mod TextLemmas
+pub mod TokenLemmas
 pub mod TreeReading
 pub mod Trees
 pub mod WholeLemmas

@@ -1,5 +1,6 @@
 pub mod Bodies
 pub mod Canon
+pub mod Context
 pub mod Fits
 pub mod Kinds
 pub mod Lookup
@@ -12,5 +13,6 @@ pub mod Subst
 pub mod SubstMeasure
 pub mod Texts
 pub mod Tokens
+pub mod UserStrings
 pub mod Whole
 pub mod World

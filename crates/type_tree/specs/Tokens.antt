@@ -1,5 +1,5 @@
 -- Which signature and which member a token stands for (ECMA-335 II.22, III.1.9).
-use Rattle.std.specs.Prelude.{ℕ, ◌+◌, ◌*◌, ◌/◌, ◌%◌, ◌-◌, Bool, ◌&&◌, ◌==◌, nat_lt, nat_le, List, length, Option, None, Some, slice_get, unwrap_or, if◌then◌else◌}
+use Rattle.std.specs.Prelude.{ℕ, ◌+◌, ◌*◌, ◌/◌, ◌%◌, ◌-◌, ◌<◌, ◌&&◌, ◌==◌, nat_lt, nat_le, List, length, Option, None, Some, slice_get, unwrap_or, if◌then◌else◌}
 use Rattle.std.specs.Option.{option_and_then}
 use Rattle.type_tree.specs.declared.parts.Locals.{Locals}
 use Rattle.type_tree.specs.declared.parts.Member.{Member}
@@ -23,24 +23,30 @@ member_rows f = f.fields + f.methods + length f.member_refs + length f.method_sp
 abbrev pub row_sigs : WorldFile → ℕ
 row_sigs f = 2 * type_rows f + member_rows f
 
--- rows count from 1
-abbrev pub is_row : ℕ → ℕ → Bool
-is_row rows row = nat_lt 0 row && nat_le row rows
+-- the numbers of a file's signatures, fields and methods are below 2 ^ 32
+pub record IsNumbered (f : WorldFile) : Type 0 where
+  pub sigs : f.first_sig.0 + row_sigs f < 4294967296
+  pub fields : f.first_field.0 + f.fields < 4294967296
+  pub methods : f.first_method.0 + f.methods < 4294967296
 
--- a row of a table with so many rows, where `before` rows of types stand before the table's
-abbrev pub type_token : WorldFile → ℕ → ℕ → ℕ → Option Token
-type_token f before rows row =
-    let sig = f.first_sig.0 + before + (row - 1) in
-    if is_row rows row
-    then Some (record { sig = record { 0 = sig }; array = Some (record { 0 = sig + type_rows f }); member = member.NoMember })
-    else None
+-- what stands for a row, where it is one of so many; rows count from 1
+abbrev pub in_rows : ℕ → ℕ → Token → Option Token
+in_rows rows row t = if nat_lt 0 row && nat_le row rows then Some t else None
+
+-- a row of a table of types, where `before` rows of types stand before the table's: its signature,
+-- and that of its array
+abbrev pub type_token : WorldFile → ℕ → ℕ → Token
+type_token f before row =
+    record {
+      sig = record { 0 = f.first_sig.0 + before + (row - 1) };
+      array = Some (record { 0 = f.first_sig.0 + type_rows f + before + (row - 1) });
+      member = member.NoMember;
+    }
 
 -- a row of a table of members, where `before` rows of members stand before the table's
-abbrev pub member_token : WorldFile → ℕ → ℕ → ℕ → Member → Option Token
-member_token f before rows row m =
-    if is_row rows row
-    then Some (record { sig = record { 0 = f.first_sig.0 + 2 * type_rows f + before + (row - 1) }; array = None; member = m })
-    else None
+abbrev pub member_token : WorldFile → ℕ → ℕ → Member → Token
+member_token f before row m =
+    record { sig = record { 0 = f.first_sig.0 + 2 * type_rows f + before + (row - 1) }; array = None; member = m }
 
 -- the member of a Field and of a MethodDef row: a row that no definition owns has none
 abbrev pub field_of : WorldFile → ℕ → Member
@@ -56,14 +62,15 @@ listed members row = unwrap_or (slice_get members (row - 1)) member.Lost
 -- a row of a table: TypeDef, TypeRef, TypeSpec, Field, MethodDef, MemberRef, MethodSpec
 unfoldable pub row_token : WorldFile → ℕ → ℕ → Option Token
 row_token f table row =
-    if table == 0x02 then type_token f 0 f.type_defs row
-    else if table == 0x01 then type_token f f.type_defs f.type_refs row
-    else if table == 0x1B then type_token f (f.type_defs + f.type_refs) f.type_specs row
-    else if table == 0x04 then member_token f 0 f.fields row (field_of f row)
-    else if table == 0x06 then member_token f f.fields f.methods row (method_of f row)
-    else if table == 0x0A then member_token f (f.fields + f.methods) (length f.member_refs) row (listed f.member_refs row)
+    if table == 0x02 then in_rows f.type_defs row (type_token f 0 row)
+    else if table == 0x01 then in_rows f.type_refs row (type_token f f.type_defs row)
+    else if table == 0x1B then in_rows f.type_specs row (type_token f (f.type_defs + f.type_refs) row)
+    else if table == 0x04 then in_rows f.fields row (member_token f 0 row (field_of f row))
+    else if table == 0x06 then in_rows f.methods row (member_token f f.fields row (method_of f row))
+    else if table == 0x0A
+    then in_rows (length f.member_refs) row (member_token f (f.fields + f.methods) row (listed f.member_refs row))
     else if table == 0x2B
-    then member_token f (f.fields + f.methods + length f.member_refs) (length f.method_specs) row (listed f.method_specs row)
+    then in_rows (length f.method_specs) row (member_token f (f.fields + f.methods + length f.member_refs) row (listed f.method_specs row))
     else None
 
 -- a token is the number of its table in the highest byte, and its row

@@ -1,6 +1,7 @@
 -- What holds of the parts of every world.
 use Rattle.std.specs.Prelude.{ℕ, ◌+◌, Bool, true, ◌&&◌, nat_eq, nat_lt, nat_le, List, [], ◌∷◌, length, Option, None, Some, IsTrue}
 use Rattle.std.specs.List.{list_all}
+use Rattle.clr_base.specs.declared.ids.SigId.{SigId}
 use Rattle.type_tree.specs.declared.counts.Counts.{Counts}
 use Rattle.type_tree.specs.declared.definition.Def.{Def}
 use Rattle.type_tree.specs.declared.definition.Field.{Field}
@@ -10,6 +11,7 @@ use Rattle.type_tree.specs.declared.parts.Locals.{Locals}
 use Rattle.type_tree.specs.declared.parts.Member.{Member}
 use Rattle.type_tree.specs.declared.parts.Member.TheVariants as member
 use Rattle.type_tree.specs.declared.parts.Root.{Root}
+use Rattle.type_tree.specs.declared.parts.Token.{Token}
 use Rattle.type_tree.specs.declared.parts.WorldFile.{WorldFile}
 use Rattle.type_tree.specs.declared.tree.Key.{Key}
 use Rattle.type_tree.specs.World.{Facts}
@@ -61,6 +63,13 @@ locals_fit c (Some l) = is_within l.first.0 l.count c.sigs
 
 abbrev pub lists_fit : Counts → List (Option Locals) → Bool
 lists_fit c ls = list_all (locals_fit c) ls
+
+abbrev pub array_is_below : Counts → Option SigId → Bool
+array_is_below c None = true
+array_is_below c (Some sig) = nat_lt sig.0 c.sigs
+
+abbrev pub token_fits : Counts → Token → Bool
+token_fits c t = nat_lt t.sig.0 c.sigs && array_is_below c t.array && member_fits c t.member
 
 -- the runs of the rows' signatures, fields and methods are within their counts, and so are the
 -- members and the local variables that are listed

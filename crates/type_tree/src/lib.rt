@@ -2,6 +2,7 @@
 #![tactic(auto)]
 
 mod canonical;
+mod context;
 mod copying;
 mod counts;
 mod definition;
@@ -19,13 +20,16 @@ mod text;
 mod text_tests;
 #[cfg(test)]
 mod tests;
+mod tokens;
 mod tree;
+mod user_strings;
 mod whole;
 mod world;
 #[cfg(test)]
 mod worlds;
 
 pub use canonical::{canon, canon_ty, is_pointer_free, shared_form, shared_forms};
+pub use context::key_of;
 pub use copying::{copy, copy_all, copy_key};
 pub use counts::{Counts, all_fit, fits, key_fits};
 pub use definition::{Def, Field, Formal, Impl, Method};
