@@ -1,11 +1,10 @@
 -- What is read from the front is what the grammar says.
-use Rattle.std.proofs.Common.{◌≡◌, ◌≢◌, ℕ, zero, suc, ◌≤◌, ◌+◌, max, ◌==◌, eqb-true, Bool, true, false, not, ◌&&◌, ◌||◌, cond, IsTrue, List, [], ◌∷◌, ◌++◌, codes, length, Option, Some, None, refl, ap, ap₂, ◌∙◌, sym, subst, append_assoc, arith}
+use Rattle.std.proofs.Common.{◌≡◌, ◌≢◌, ℕ, zero, suc, ◌≤◌, max, ◌==◌, eqb-true, Bool, true, false, not, ◌&&◌, ◌||◌, cond, IsTrue, List, [], ◌∷◌, ◌++◌, codes, length, Option, Some, None, refl, ap, ap₂, ◌∙◌, sym, subst, append_assoc, arith}
 use Rattle.std.proofs.lemmas.Bool.{and_parts}
 use Rattle.std.proofs.lemmas.List.{append-nil}
 use Rattle.std.specs.List.{list_all}
 use Rattle.std.specs.Bool.{then_some}
 use Rattle.std.specs.Option.{IfSome, IfNone}
-use Rattle.clr_base.specs.declared.ids.DefId.{DefId}
 use Rattle.type_tree.specs.declared.tree.Ty.{Ty}
 use Rattle.type_tree.specs.declared.tree.Ty.TheVariants as ty
 use Rattle.type_tree.specs.World.{Facts}

@@ -1,10 +1,9 @@
 -- Printed texts, and the grammar.
-use Rattle.std.proofs.Common.{◌≡◌, ◌↔◌, ◌≤◌, ℕ, ◌==◌, eqb-true, eq-eqb, Bool, true, false, ◌&&◌, IsTrue, List, [], ◌∷◌, ◌++◌, codes, map, Option, Some, None, refl, ap, ap₂, ◌∙◌, sym, subst, append_assoc}
+use Rattle.std.proofs.Common.{◌≡◌, ◌↔◌, ◌≤◌, ℕ, eqb-true, eq-eqb, Bool, ◌&&◌, IsTrue, List, [], ◌∷◌, ◌++◌, codes, map, Option, Some, None, refl, ap, ap₂, ◌∙◌, sym, subst, append_assoc}
 use Rattle.std.proofs.lemmas.Bool.{and_parts}
 use Rattle.std.specs.List.{list_all, flat_map}
 use Rattle.clr_base.specs.declared.ids.DefId.{DefId}
 use Rattle.type_tree.specs.declared.tree.Ty.{Ty}
-use Rattle.type_tree.specs.declared.tree.Ty.TheOpen.{Ty-F}
 use Rattle.type_tree.specs.declared.tree.Ty.TheVariants as ty
 use Rattle.type_tree.specs.World.{Facts}
 use Rattle.type_tree.specs.Lookup.{first_named, full_name}

@@ -1,15 +1,14 @@
 -- What a text begins with is determined by the text.
-use Rattle.std.proofs.Common.{◌≡◌, ℕ, zero, suc, ◌≤◌, ◌<◌, ◌+◌, Bool, true, false, not, ◌&&◌, ◌==◌, cond, IsTrue, List, [], ◌∷◌, ◌++◌, length, Option, Some, None, refl, ap, ap₂, ◌∙◌, sym, subst, arith, length-append}
+use Rattle.std.proofs.Common.{◌≡◌, ℕ, zero, suc, ◌≤◌, Bool, true, false, not, ◌&&◌, ◌==◌, cond, IsTrue, List, [], ◌∷◌, ◌++◌, length, Some, None, refl, ap, ap₂, ◌∙◌, sym, subst, arith, length-append}
 use Rattle.std.proofs.lemmas.Bool.{and_parts}
 use Rattle.std.specs.List.{list_all}
-use Rattle.clr_base.specs.declared.ids.DefId.{DefId}
 use Rattle.type_tree.specs.declared.tree.Ty.{Ty}
 use Rattle.type_tree.specs.declared.tree.Ty.TheVariants as ty
 use Rattle.type_tree.specs.World.{Facts}
 use Rattle.type_tree.specs.Lookup.{first_named}
-use Rattle.type_tree.specs.Measure.{depth, depth_of_all}
+use Rattle.type_tree.specs.Measure.{depth}
 use Rattle.type_tree.specs.ReadTexts.{is_mark, is_plain}
-use Rattle.type_tree.specs.Reading.{IsSplit, IsDefinition, is_past_name, begins_with, list_at, array_at, arrays, in_arrays, AreArrays, is_end, BeginsList, BeginsArguments, BeginsTree, Begins, last, next, none, some}
+use Rattle.type_tree.specs.Reading.{is_past_name, begins_with, list_at, array_at, arrays, in_arrays, BeginsList, BeginsArguments, BeginsTree, Begins, last, next, none, some}
 
 -- a mark stands in no name
 clash : (y : ℕ) (s r : List ℕ) → IsTrue (is_past_name r) → r ≡ y ∷ s → IsTrue (is_plain y) → ⊥

@@ -5,7 +5,6 @@ use Rattle.std.proofs.Math.Seq.{drop-length}
 use Rattle.clr_base.specs.declared.ids.DefId.{DefId}
 use Rattle.clr_base.specs.declared.ids.NameId.{NameId}
 use Rattle.type_tree.specs.declared.tree.Ty.{Ty}
-use Rattle.type_tree.specs.declared.tree.Ty.TheOpen.{Ty-F}
 use Rattle.type_tree.specs.declared.tree.Ty.TheVariants as ty
 use Rattle.type_tree.specs.World.{Facts}
 use Rattle.type_tree.specs.Lookup.{full_name, name_text}

@@ -1,15 +1,15 @@
 -- What the function that reads a tree does at each of its ends.
-use Rattle.std.proofs.Common.{◌≡◌, ◌≢◌, ◌==◌, eqb-true, eq-eqb, ℕ, zero, suc, ◌≤◌, ◌<◌, ◌+◌, ◌-◌, max, Bool, true, false, not, ◌&&◌, cond, IsTrue, List, [], ◌∷◌, ◌++◌, length, take, drop, map, Option, Some, None, Result, Ok, Err, refl, ap, ap₂, ◌∙◌, sym, subst, arith}
-use Rattle.std.specs.List.{list_all, position_or_len, prefix_len}
+use Rattle.std.proofs.Common.{◌≡◌, ◌≢◌, ◌==◌, eqb-true, eq-eqb, ℕ, zero, suc, ◌≤◌, ◌<◌, ◌+◌, Bool, true, false, not, ◌&&◌, cond, List, [], ◌∷◌, ◌++◌, length, take, drop, Some, None, Result, Ok, Err, refl, ap, ap₂, ◌∙◌, sym, subst, arith}
+use Rattle.std.specs.List.{position_or_len}
 use Rattle.clr_base.specs.declared.ids.DefId.{DefId}
 use Rattle.type_tree.specs.declared.tree.Ty.{Ty}
 use Rattle.type_tree.specs.declared.tree.Ty.TheVariants as ty
 use Rattle.type_tree.specs.declared.read_text.Stop.{Stop}
 use Rattle.type_tree.specs.declared.read_text.Stop.TheVariants as stop
 use Rattle.type_tree.specs.World.{Facts}
-use Rattle.type_tree.specs.Measure.{depth, depth_step, depth_of_all, largest}
+use Rattle.type_tree.specs.Measure.{depth, depth_step, depth_of_all}
 use Rattle.type_tree.specs.ReadTexts.{is_mark, is_plain}
-use Rattle.type_tree.specs.Reading.{IfRefused, Answers, IsSplit, IsDefinition, is_past_name, behind, list_at, array_at, arrays, in_arrays, AreArrays, is_end, BeginsList, BeginsArguments, BeginsTree, Begins, last, next, none, some}
+use Rattle.type_tree.specs.Reading.{IfRefused, Answers, IsSplit, IsDefinition, behind, list_at, array_at, arrays, in_arrays, AreArrays, is_end, BeginsList, BeginsArguments, BeginsTree, Begins, last, next, none, some}
 use Rattle.type_tree.proofs.Folds.{fold-Inst, fold-Array}
 use Rattle.type_tree.proofs.ReadingLemmas.{split_unique, arrays_unique, arguments_one, begins_one, shallow}
 

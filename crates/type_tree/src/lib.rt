@@ -15,11 +15,11 @@ mod parts;
 mod read_text;
 mod subst_measure;
 mod substitution;
+#[cfg(test)]
+mod tests;
 mod text;
 #[cfg(test)]
 mod text_tests;
-#[cfg(test)]
-mod tests;
 mod tokens;
 mod tree;
 mod user_strings;

@@ -1,10 +1,9 @@
-use Rattle.std.proofs.Common.{◌≡◌, ℕ, suc, ◌∷◌, ◌+◌, ◌-◌, ◌<◌, ◌≤◌, true, false, Some, None, List, length, sym, subst, ap, ◌∙◌, arith}
+use Rattle.std.proofs.Common.{◌≡◌, suc, ◌∷◌, ◌+◌, ◌-◌, ◌<◌, ◌≤◌, true, false, length, sym, subst, ap, ◌∙◌, arith}
 use Rattle.std.proofs.lemmas.Result.{err_from_is_err_and}
-use Rattle.type_tree.specs.declared.tree.Ty.{Ty}
 use Rattle.type_tree.specs.Measure.{depth_of_all}
 use Rattle.type_tree.specs.Reading as spec
 use Rattle.type_tree.proofs.ReadingLemmas.{begins_one, begins_shorter}
-use Rattle.type_tree.proofs.ListLoop.{goes_on, ends, none_next, no_mark}
+use Rattle.type_tree.proofs.ListLoop.{goes_on, ends, no_mark}
 use Rattle.type_tree.proofs.TreeReading.{pass_on, in_brackets, behind-some, behind-none, arguments_shallow, no_levels, no_definition, no_arguments, no_end, too_deep, found}
 use Rattle.type_tree.proofs.read_text.+read.Goals as goal
 
