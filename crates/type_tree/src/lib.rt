@@ -26,6 +26,8 @@ mod user_strings;
 mod whole;
 mod world;
 #[cfg(test)]
+mod world_tests;
+#[cfg(test)]
 mod worlds;
 
 pub use canonical::{canon, canon_ty, is_pointer_free, shared_form, shared_forms};
