@@ -10,6 +10,8 @@ mod names;
 #[cfg(test)]
 mod run;
 #[cfg(test)]
+mod schema;
+#[cfg(test)]
 mod signatures;
 #[cfg(test)]
 mod written;
