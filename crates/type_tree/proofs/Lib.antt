@@ -1,6 +1,9 @@
+pub mod Bounds
 pub mod CanonLemmas
 pub mod Folds
 pub mod SharedLemmas
 pub mod SubstLemmas
 pub mod SubstMeasureLemmas
+pub mod TokenLemmas
 pub mod Trees
+pub mod WholeLemmas

@@ -4,7 +4,7 @@ use Rattle.clr_base.specs.declared.ids.DefId.{DefId}
 use Rattle.type_tree.specs.declared.tree.Ty.{Ty}
 use Rattle.type_tree.specs.declared.tree.Ty.TheOpen.{Ty-F}
 use Rattle.type_tree.specs.declared.tree.Ty.TheViews.{out-Ty}
-use Rattle.type_tree.specs.declared.world.Def.{Def}
+use Rattle.type_tree.specs.declared.definition.Def.{Def}
 use Rattle.type_tree.specs.World.{Facts}
 
 -- the number of the definition at the head of a tree

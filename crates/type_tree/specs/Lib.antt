@@ -1,8 +1,14 @@
+pub mod Bodies
 pub mod Canon
+pub mod Context
+pub mod Fits
 pub mod Kinds
 pub mod Measure
 pub mod Same
 pub mod SameLaws
 pub mod Subst
 pub mod SubstMeasure
+pub mod Tokens
+pub mod UserStrings
+pub mod Whole
 pub mod World

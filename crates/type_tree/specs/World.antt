@@ -1,12 +1,6 @@
 -- What contracts see of a world.
-use Rattle.std.specs.Prelude.{List}
-use Rattle.clr_base.specs.declared.ids.DefId.{DefId}
-use Rattle.type_tree.specs.declared.world.Def.{Def}
+use Rattle.type_tree.specs.declared.parts.WorldParts.{WorldParts}
 
-pub record Facts : Type 0 where
-  -- the definitions, each at its number
-  pub defs : List Def
-  -- System.ValueType, System.Enum and System.__Canon
-  pub value_type : DefId
-  pub enumeration : DefId
-  pub canon : DefId
+-- its parts as plain data: each list is a list, each text the list of its bytes
+abbrev pub Facts : Type 0
+Facts = WorldParts

@@ -4,8 +4,9 @@ ghost use Rattle.std.specs.Prelude.{◌≡◌, IfOk};
 ghost use Rattle.type_tree.specs.Canon as spec;
 
 use crate::copying::copy;
+use crate::kinds::is_reference;
 use crate::tree::{Key, MethKey, Ty, TyList};
-use crate::world::{World, is_reference};
+use crate::world::World;
 use clr_base::Memory;
 use sqlite_items::{Boxed, Items};
 use std::alloc::Global;

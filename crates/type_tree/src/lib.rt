@@ -2,25 +2,40 @@
 #![tactic(auto)]
 
 mod canonical;
+mod context;
 mod copying;
+mod counts;
+mod definition;
 mod equality;
+mod kinds;
 mod laws;
 mod measure;
+mod parts;
 mod subst_measure;
 mod substitution;
 #[cfg(test)]
 mod tests;
+mod tokens;
 mod tree;
+mod user_strings;
+mod whole;
 mod world;
+#[cfg(test)]
+mod worlds;
 
 pub use canonical::{canon, canon_ty, is_pointer_free, shared_form, shared_forms};
+pub use context::key_of;
 pub use copying::{copy, copy_all, copy_key};
+pub use counts::{Counts, all_fit, fits, key_fits};
+pub use definition::{Def, Field, Formal, Impl, Method};
 pub use equality::{same, same_all, same_key};
+pub use kinds::{is_reference, is_value};
 pub use laws::{
     canonical_of_canonical, nothing_put_in, shared_form_of_substituted, two_substitutions,
 };
 pub use measure::{depth, depth_of_all, depth_of_key, weight, weight_of_all, weight_of_key};
+pub use parts::{BodyPlace, Locals, Member, Root, Token, WorldFile, WorldParts};
 pub use subst_measure::{subst_depth, subst_weight};
 pub use substitution::{subst, subst_all, subst_ty};
 pub use tree::{Key, KeyList, MethKey, Ty, TyList};
-pub use world::{Def, World, is_reference, is_value};
+pub use world::World;

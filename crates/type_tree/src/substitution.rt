@@ -62,11 +62,14 @@ pub fn subst_all(alloc: Global, all: &[Ty], types: &[Ty], methods: &[Ty]) -> Res
 }
 
 /// The key with `types` and `methods` put in for its variables; a variable past its list stays.
-pub fn subst(alloc: Global, key: &Key, types: &TyList, methods: &TyList) -> Result<Key, Memory>
+pub(crate) fn subst_key(
+    alloc: Global,
+    key: &Key,
+    types: &[Ty],
+    methods: &[Ty],
+) -> Result<Key, Memory>
     ensures { IfOk result (λ k. k ≡ spec.subst key.now types.now methods.now) }
 {
-    let types = types.as_slice();
-    let methods = methods.as_slice();
     match key {
         Key::Tree(t) => Ok(Key::Tree(subst_ty(alloc, t, types, methods)?)),
         Key::Meth(k) => {
@@ -79,4 +82,11 @@ pub fn subst(alloc: Global, key: &Key, types: &TyList, methods: &TyList) -> Resu
             }))
         }
     }
+}
+
+/// The key with `types` and `methods` put in for its variables; a variable past its list stays.
+pub fn subst(alloc: Global, key: &Key, types: &TyList, methods: &TyList) -> Result<Key, Memory>
+    ensures { IfOk result (λ k. k ≡ spec.subst key.now types.now methods.now) }
+{
+    subst_key(alloc, key, types.as_slice(), methods.as_slice())
 }

@@ -1,32 +1,11 @@
 //! Worked examples: what stands after a substitution, which instantiations share code, and how deep
 //! and heavy trees are. `G` is a class, `Int` a value type, in a world of nine definitions.
 use super::*;
+use crate::worlds::*;
 use clr_base::{DefId, Memory, MethId, NameId};
 use sqlite_items::{Boxed, Items};
 use std::alloc::Global;
 use std::test::Fail;
-
-const OBJECT: DefId = DefId(0);
-
-const VALUE_TYPE: DefId = DefId(1);
-
-const ENUM: DefId = DefId(2);
-
-const CANON: DefId = DefId(3);
-
-const STRING: DefId = DefId(4);
-
-const INT: DefId = DefId(5);
-
-const G: DefId = DefId(6);
-
-const COLOR: DefId = DefId(7);
-
-const PAIR: DefId = DefId(8);
-
-fn plain(alloc: Global, def: DefId) -> Ty {
-    Ty::Inst(def, Items::new(alloc))
-}
 
 fn of(alloc: Global, def: DefId, arg: Ty) -> Result<Ty, Memory> {
     let mut args = Items::new(alloc);
@@ -44,32 +23,9 @@ fn list(alloc: Global, t: Ty) -> Result<TyList, Memory> {
     Ok(done)
 }
 
-/// Each definition with its parent: System.Enum extends System.ValueType and is a class.
-fn world(alloc: Global) -> Result<World, Memory> {
-    let mut defs = Items::new(alloc);
-    let parents = [
-        None,
-        Some(OBJECT),
-        Some(VALUE_TYPE),
-        Some(OBJECT),
-        Some(OBJECT),
-        Some(VALUE_TYPE),
-        Some(OBJECT),
-        Some(ENUM),
-        Some(VALUE_TYPE),
-    ];
-    for (number, parent) in parents.iter().enumerate() {
-        defs.push(Def {
-            name: NameId(number as u32),
-            parent: parent.map(|def| plain(alloc, def)),
-        })?;
-    }
-    Ok(World::new(defs, VALUE_TYPE, ENUM, CANON))
-}
-
 #[test]
 fn kinds_of_definitions(rt: HostRuntime) -> Result<(), Fail> {
-    let world = world(rt.alloc())?;
+    let world = small_world(&rt, rt.alloc())?;
     for (def, value) in [
         (OBJECT, false),
         (VALUE_TYPE, false),
@@ -88,7 +44,7 @@ fn kinds_of_definitions(rt: HostRuntime) -> Result<(), Fail> {
 #[test]
 fn instantiations_that_share_code(rt: HostRuntime) -> Result<(), Fail> {
     let alloc = rt.alloc();
-    let world = world(alloc)?;
+    let world = small_world(&rt, rt.alloc())?;
     let shared = of(alloc, G, plain(alloc, CANON))?;
     for (argument, shares) in [
         (STRING, true),
@@ -108,7 +64,7 @@ fn instantiations_that_share_code(rt: HostRuntime) -> Result<(), Fail> {
 #[test]
 fn array_of_a_variable_under_each_argument(rt: HostRuntime) -> Result<(), Fail> {
     let alloc = rt.alloc();
-    let world = world(alloc)?;
+    let world = small_world(&rt, rt.alloc())?;
     let open = array(alloc, Ty::Var(0))?;
     for (argument, element) in [(STRING, CANON), (OBJECT, CANON), (INT, INT)] {
         let types = list(alloc, plain(alloc, argument))?;
@@ -190,5 +146,15 @@ fn a_copy_is_equal(rt: HostRuntime) -> Result<(), Fail> {
     let key = method_of_pair(alloc)?;
     let copy = copy_key(alloc, &key)?;
     assert!(rt; copy == key);
+    Ok(())
+}
+
+#[test]
+fn names_of_definitions(rt: HostRuntime) -> Result<(), Fail> {
+    let world = small_world(&rt, rt.alloc())?;
+    assert_eq!(rt; world.def_count(), 9);
+    let pair = world.def(PAIR);
+    assert_eq!(rt; pair.file, 1);
+    assert_eq!(rt; world.name(pair.name), "N.Outer+Pair`2");
     Ok(())
 }
