@@ -1,0 +1,3 @@
+mod CoreFacts
+mod CoreNames
+mod Ranges
