@@ -12,8 +12,7 @@ use Rattle.cli_tables.specs.Metadata.{Metadata}
 use Rattle.cli_tables.specs.Schema.{columns}
 use Rattle.std.specs.Str.{is_utf8}
 use Rattle.clr_core.specs.Nesting.{AreTypesNamed}
-use Rattle.clr_core.specs.Rows.{is_text, text_checks, cell_checks, column_checks, rule_checks, row_checks, table_checks, rows_checks, ArePassed}
-use Rattle.clr_core.specs.declared.rows.TheConstants.{CHECKED_TABLES}
+use Rattle.clr_core.specs.Rows.{checked_tables, is_text, text_checks, cell_checks, column_checks, rule_checks, row_checks, table_checks, rows_checks, ArePassed}
 
 first_passes : (r s : Result (Unit {0}) ImageFault) → after r s ≡ Ok (tt {0}) → r ≡ Ok (tt {0})
 first_passes (Ok x) s e = refl
@@ -89,7 +88,7 @@ row_at m table row first last all =
 -- the table TypeDef is the second one that is checked
 type_defs_pass : (m : Metadata) → ArePassed m → first_fault (table_checks m 0x02) ≡ Ok (tt {0})
 unfolding rows_checks
-type_defs_pass m all = passed_at (length CHECKED_TABLES) 1 (λ k. table_checks m (slice_index CHECKED_TABLES k)) (omega arith) all
+type_defs_pass m all = passed_at (length checked_tables) 1 (λ k. table_checks m (slice_index checked_tables k)) (omega arith) all
 
 -- the columns Name and Namespace are there
 pub text_column : (column : ℕ) → (column ≡ 1) ⊎ (column ≡ 2) → column < length (columns 2)

@@ -118,6 +118,15 @@ Tells err (BadImage file fault) = Says err (refused_line file fault)
 Tells err WriteFault = Says err unwritten_line
 Tells err Memory = Says err memory_line
 
+-- the number that a program ends with (5, 7 and 8 are kept for statuses that come later)
+abbrev pub status_number : Status → ℕ
+status_number status.Done = 0
+status_number status.Usage = 1
+status_number status.ReadFault = 2
+status_number status.WriteFault = 3
+status_number status.BadImage = 4
+status_number status.Memory = 6
+
 -- A run ends in one of these ways, with its status and its line.
 pub record EndsWith (run : Run) (err : Written) (reached : Status) : Type 0 where
   pub end : End

@@ -11,7 +11,6 @@ use Rattle.cli_tables.specs.Heaps.{text_at, blob_at}
 use Rattle.cli_tables.specs.Layout.{cell, row_count, one_if}
 use Rattle.cli_tables.specs.Metadata.{Metadata}
 use Rattle.cli_tables.specs.Schema.{columns, tables_of, tag_bits}
-use Rattle.clr_core.specs.declared.rows.TheConstants.{CHECKED_TABLES}
 
 -- the token of a row (II.22): the table's number stands in the highest byte
 unfoldable pub token : ℕ → ℕ → ℕ
@@ -122,9 +121,16 @@ row_checks m table row = column_checks m table row ++ rule_checks m table row
 unfoldable pub table_checks : Metadata → ℕ → List Check
 table_checks m table = each (row_count m.tables table) (λ r. row_checks m table (r + 1))
 
--- all rows of the tables that are checked
+-- The tables whose rows are checked, in order: TypeRef, TypeDef, Field, MethodDef, InterfaceImpl, MemberRef, ClassLayout,
+-- FieldLayout, StandAloneSig, MethodImpl, TypeSpec, Assembly, AssemblyRef, NestedClass, GenericParam, MethodSpec,
+-- GenericParamConstraint.
+abbrev pub checked_tables : List ℕ
+checked_tables =
+    0x01 ∷ 0x02 ∷ 0x04 ∷ 0x06 ∷ 0x09 ∷ 0x0a ∷ 0x0f ∷ 0x10 ∷ 0x11 ∷ 0x19 ∷ 0x1b ∷ 0x20 ∷ 0x23 ∷ 0x29 ∷ 0x2a ∷ 0x2b ∷ 0x2c ∷ []
+
+-- all their rows
 unfoldable pub rows_checks : Metadata → List Check
-rows_checks m = each (length CHECKED_TABLES) (λ k. table_checks m (slice_index CHECKED_TABLES k))
+rows_checks m = each (length checked_tables) (λ k. table_checks m (slice_index checked_tables k))
 
 -- all rows pass
 abbrev pub ArePassed : Metadata → Type 0

@@ -1,24 +1,40 @@
 //! How a run ends.
 ghost use Rattle.std.specs.Prelude.{◌≡◌};
-ghost use Rattle.clr_core.specs.Ends.{status_of, end_of_stop};
+ghost use Rattle.clr_core.specs.Ends.{status_of, status_number, end_of_stop};
 
 use clr_base::ImageFault;
 
-/// The program's exit status. The numbers are stable.
+/// How a run ended.
 #[derive(Clone, Copy, Debug, PartialEq, Eq)]
 pub enum Status {
     /// The whole text was written.
-    Done = 0,
+    Done,
     /// The words are no command.
-    Usage = 1,
+    Usage,
     /// A file wasn't read: the shelf failed.
-    ReadFault = 2,
+    ReadFault,
     /// The text wasn't written whole: the sink failed.
-    WriteFault = 3,
+    WriteFault,
     /// A file is refused: one of its checks fails.
-    BadImage = 4,
+    BadImage,
     /// Want of memory.
-    Memory = 6,
+    Memory,
+}
+
+impl Status {
+    /// The number that the program ends with.
+    pub fn number(self) -> u8
+        ensures { result ≡ status_number self }
+    {
+        match self {
+            Status::Done => 0,
+            Status::Usage => 1,
+            Status::ReadFault => 2,
+            Status::WriteFault => 3,
+            Status::BadImage => 4,
+            Status::Memory => 6,
+        }
+    }
 }
 
 /// What a run comes to.

@@ -194,7 +194,7 @@ fn rows_that_are_refused(rt: HostRuntime) -> Result<(), Fail> {
     ] {
         let meta = metadata_of(rt.alloc(), &stream(rt.alloc(), table, count, rows)?)?;
         let tables = Tables::read(&meta)?;
-        let place = u64::from(table) * 16_777_216 + row;
+        let place = (u64::from(table) * 16_777_216).saturating_add(row);
         let wanted = if row == 0 {
             Ok(())
         } else {

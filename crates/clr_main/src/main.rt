@@ -26,7 +26,7 @@ fn main(rt: HostRuntime) -> ExitCode {
         Ok(words) => words,
         Err(error) if error.kind() == ErrorKind::OutOfMemory => {
             let _ = put_all(&mut err, b"clr: want of memory\n");
-            return ExitCode::from(Status::Memory as u8);
+            return ExitCode::from(Status::Memory.number());
         }
         // Arguments that are no text are no command.
         Err(_) => Vec::new(alloc),
@@ -34,5 +34,5 @@ fn main(rt: HostRuntime) -> ExitCode {
     let outcome = clr(
         &rt, alloc, &words, &mut shelf, &mut out, &mut err, &OpenGate,
     );
-    ExitCode::from(outcome.status as u8)
+    ExitCode::from(outcome.status.number())
 }

@@ -212,7 +212,7 @@ impl Assembly {
     /// multiple of 4. Gives the cell of its method: its place plus 1.
     fn body(&mut self, code: &[u8]) -> Result<u32, AllocError> {
         if code.len() >= 64 {
-            while self.bodies.len() % 4 != 0 {
+            for _ in self.bodies.len() % 4..4 {
                 self.bodies.push(0)?;
             }
         }

@@ -1,5 +1,5 @@
 -- The mask of the tables with rows has their bits.
-use Rattle.std.proofs.Common.{◌≡◌, ℕ, zero, suc, ◌+◌, ◌-◌, ◌*◌, ◌/◌, ◌%◌, ◌^◌, ◌<◌, ◌≤◌, Bool, true, false, ◌==◌, ◌&&◌, nat_lt, if◌then◌else◌, refl, sym, ◌∙◌, ap, subst, arith, ◌⊎◌, inl, inr}
+use Rattle.std.proofs.Common.{◌≡◌, ℕ, zero, suc, ◌+◌, ◌-◌, ◌*◌, ◌/◌, ◌%◌, ◌^◌, ◌<◌, ◌≤◌, Bool, true, false, ◌==◌, ◌&&◌, nat_lt, if◌then◌else◌, sym, ◌∙◌, ap, subst, arith, ◌⊎◌, inl, inr}
 use Rattle.std.proofs.Math.Nat.{two-pow-succ, pow-suc, div-eq_of_lt, add-mul-div_right, pow-le-pow_right, mul_assoc, mul_comm, add-mul-mod_self_right, one-le-pow}
 use Rattle.std.proofs.Math.Pow.{pow-add}
 use Rattle.std.proofs.lemmas.Bool.{le-leb, lt-leb}
@@ -53,6 +53,7 @@ order t n = by_cases (less_or_more t n)
   where
     less_or_more : (a b : ℕ) → (a < b) ⊎ ((a ≡ b) ⊎ (b < a))
     less_or_more a b = grind arith
+
     by_cases : (t < n) ⊎ ((t ≡ n) ⊎ (n < t)) → Order t n
     by_cases (inl h) = before h
     by_cases (inr (inl h)) = here h

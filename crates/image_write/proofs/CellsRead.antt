@@ -1,5 +1,5 @@
 -- The cells that are written are read as they are, and the stream `#~` is whole.
-use Rattle.std.proofs.Common.{◌≡◌, ℕ, zero, suc, ◌+◌, ◌-◌, ◌*◌, ◌/◌, ◌^◌, ◌<◌, ◌≤◌, List, [], ◌∷◌, ◌++◌, length, map, take, get_or, Bool, true, false, ◌&&◌, ◌||◌, ◌==◌, not, nat_lt, nat_le, if◌then◌else◌, eqb-true, refl, sym, ◌∙◌, ap, ap₂, subst, arith, Option, None, ◌⊎◌, inl, inr}
+use Rattle.std.proofs.Common.{◌≡◌, ℕ, zero, suc, ◌+◌, ◌-◌, ◌*◌, ◌^◌, ◌<◌, ◌≤◌, List, length, map, take, get_or, Bool, true, false, ◌&&◌, ◌||◌, ◌==◌, not, nat_lt, nat_le, if◌then◌else◌, eqb-true, refl, sym, ◌∙◌, ap, ap₂, arith, None, ◌⊎◌, inl, inr}
 use Rattle.std.proofs.lemmas.Bool.{leb-true, le-leb, lt-leb}
 use Rattle.std.specs.List.{list_all, range_with_len}
 use Rattle.clr_base.specs.LittleEndian.{number_at}
@@ -7,16 +7,16 @@ use Rattle.cli_tables.specs.Layout.{sum_below, has_bit, heap_sizes, row_count, r
 use Rattle.cli_tables.specs.Layout as layout
 use Rattle.cli_tables.specs.Schema.{columns}
 use Rattle.image_write.specs.declared.draft.Draft.{Draft}
-use Rattle.image_write.specs.Drafts.{column_count, cells, rows, has_rows, counts, heap_bits, row_len, cell, column_width}
+use Rattle.image_write.specs.Drafts.{column_count, rows, has_rows, counts, heap_bits, row_len, cell, column_width}
 use Rattle.image_write.specs.Fitting.{fits, cell_fits, crowded}
 use Rattle.image_write.specs.Image.{is_rva, rva_of, bodies_rva, written, cell_bytes, row_bytes, table_bytes, tables}
-use Rattle.image_write.specs.Lengths.{present_below, rows_len_below, tables_len, metadata_len, image_len}
-use Rattle.image_write.specs.Pieces.{bytes_of, rounded, padded, joined}
+use Rattle.image_write.specs.Lengths.{present_below, rows_len_below, tables_len, image_len}
+use Rattle.image_write.specs.Pieces.{joined}
 use Rattle.image_write.proofs.Fitted.{short, cells_fit, few_rows}
 use Rattle.image_write.proofs.Found.{At, at_inside, at_place, at_joined, number_found}
 use Rattle.image_write.proofs.Shortness.{no_rows, rounded_holds}
-use Rattle.image_write.proofs.TablesRead.{stream, sizes_read, valid_read, bit_read, bit_past, rows_at_read, at_rows, count_read, counts_read, row_width_read, start_read, bits_small}
-use Rattle.image_write.proofs.WrittenLengths.{length-joined, length-bytes_of, length-row, length-table, length-rows, length-tables, length-padded, sum_same, sum_of_one, widths_below}
+use Rattle.image_write.proofs.TablesRead.{stream, sizes_read, bit_read, bit_past, rows_at_read, at_rows, counts_read, row_width_read, start_read, bits_small}
+use Rattle.image_write.proofs.WrittenLengths.{length-joined, length-bytes_of, length-row, length-rows, length-tables, length-padded, sum_same, sum_of_one, widths_below}
 
 -- where a cell stands
 at_cell : (draft : Draft) (t r c : ℕ) → t < 45 → r < rows draft t → c < column_count t
@@ -130,6 +130,7 @@ not_less n h = by_order (either n)
   where
     either : (n : ℕ) → (n ≤ 16777215) ⊎ (16777215 < n)
     either n = grind arith
+
     by_order : (n ≤ 16777215) ⊎ (16777215 < n) → nat_le n 16777215 ≡ true
     by_order (inl less) = le-leb n 16777215 less
     by_order (inr more) = absurd (let h' = le-leb (suc 16777215) n more in cc)

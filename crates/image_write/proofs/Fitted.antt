@@ -1,16 +1,12 @@
 -- What holds of a draft that fits.
-use Rattle.std.proofs.Common.{◌≡◌, ℕ, zero, suc, ◌+◌, ◌-◌, ◌*◌, ◌^◌, ◌<◌, ◌≤◌, List, [], ◌∷◌, Bool, true, false, cond, ◌&&◌, ◌||◌, ◌==◌, nat_lt, nat_le, if◌then◌else◌, length, map, get_or, eqb-true, refl, sym, ◌∙◌, ap, subst, arith, Option, None, Some}
+use Rattle.std.proofs.Common.{◌≡◌, ℕ, zero, suc, ◌+◌, ◌^◌, ◌<◌, Bool, true, false, cond, nat_lt, refl, ◌∙◌, ap, arith, Option, None, Some}
 use Rattle.std.proofs.lemmas.Bool.{leb-true}
-use Rattle.std.proofs.lemmas.List.FromFn.{get_or-range_with_len, length-range_with_len}
 use Rattle.std.specs.List.{list_all, find, range_with_len}
-use Rattle.cli_tables.proofs.SchemaFacts.{first_of_both, last_of_both, all_at}
-use Rattle.cli_tables.specs.Layout.{width}
-use Rattle.cli_tables.specs.Schema.{columns}
+use Rattle.cli_tables.proofs.SchemaFacts.{first_of_both, last_of_both}
 use Rattle.image_write.specs.declared.draft.Draft.{Draft}
-use Rattle.image_write.specs.Drafts.{column_count, cells, rows, counts, heap_bits, cell, column_width}
+use Rattle.image_write.specs.Drafts.{column_count, rows}
 use Rattle.image_write.specs.Fitting.{cell_fits, row_fits, table_fits, fits, crowded}
-use Rattle.image_write.specs.Image.{is_rva, rva_of, bodies_rva, written}
-use Rattle.image_write.specs.Lengths.{metadata_len, image_len}
+use Rattle.image_write.specs.Lengths.{image_len}
 
 pub short_test : (draft : Draft) → fits draft ≡ true → nat_lt (image_len draft) (2 ^ 31) ≡ true
 unfolding fits

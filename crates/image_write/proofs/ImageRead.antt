@@ -1,21 +1,21 @@
 -- The image that is written is read as it is.
-use Rattle.std.proofs.Common.{◌≡◌, ℕ, ◌+◌, ◌-◌, ◌^◌, ◌<◌, ◌≤◌, List, [], ◌∷◌, ◌++◌, length, drop, get_or, slice_range, Bool, true, false, if◌then◌else◌, Option, Some, None, Ok, codes, refl, sym, ◌∙◌, ap, ap₂, subst, arith, length-append}
+use Rattle.std.proofs.Common.{◌≡◌, ℕ, ◌+◌, ◌-◌, ◌^◌, ◌<◌, ◌≤◌, List, ◌++◌, length, drop, get_or, Bool, true, false, Option, Some, None, refl, ◌∙◌, ap, arith, length-append}
 use Rattle.std.proofs.Math.Seq.{drop-append-add}
 use Rattle.std.specs.Option.{option_map}
 use Rattle.clr_base.specs.LittleEndian.{number_at}
 use Rattle.pe_image.specs.Sections.{place_of}
-use Rattle.cli_tables.specs.Metadata.{Metadata, read_of}
+use Rattle.cli_tables.specs.Metadata.{read_of}
 use Rattle.image_write.specs.declared.draft.Draft.{Draft}
 use Rattle.image_write.specs.declared.pieces.Field.{Field}
 use Rattle.image_write.specs.Fitting.{fits, crowded}
-use Rattle.image_write.specs.Image.{dos_header, file_header, optional_header, section_header, cli_header, file_headers, optional_len, directories, bodies_rva, metadata, image_of}
+use Rattle.image_write.specs.Image.{dos_header, file_header, optional_header, section_header, cli_header, file_headers, optional_len, bodies_rva, metadata, image_of}
 use Rattle.image_write.specs.Lengths.{metadata_len, section_len, image_len}
-use Rattle.image_write.specs.Pieces.{bytes_of, field, text_field, structure}
-use Rattle.image_write.specs.ReadBack.{ReadsBack, contents_of}
+use Rattle.image_write.specs.Pieces.{field, structure}
+use Rattle.image_write.specs.ReadBack.{ReadsBack}
 use Rattle.image_write.proofs.CellsRead.{cell_read}
 use Rattle.image_write.proofs.FileRead.{IsFile, metadata_found, place_found}
 use Rattle.image_write.proofs.Fitted.{short}
-use Rattle.image_write.proofs.Found.{At, at_whole, at_front, at_more, at_behind, at_inside, at_place, at_field, rest_at, number_found, range_found, ordered}
+use Rattle.image_write.proofs.Found.{At, at_whole, at_front, at_more, at_behind, at_inside, at_place, at_field, number_found, range_found, ordered}
 use Rattle.image_write.proofs.MetadataLengths.{length-metadata}
 use Rattle.image_write.proofs.MetadataRead.{metadata_read}
 use Rattle.image_write.proofs.TablesRead.{count_read}

@@ -1,10 +1,10 @@
 -- How long the parts of the metadata are.
-use Rattle.std.proofs.Common.{◌≡◌, ℕ, ◌+◌, ◌*◌, ◌<◌, ◌≤◌, List, ◌++◌, length, codes, refl, ◌∙◌, ap, ap₂, arith, length-append}
+use Rattle.std.proofs.Common.{◌≡◌, ℕ, ◌+◌, List, ◌++◌, length, codes, ◌∙◌, ap, arith, length-append}
 use Rattle.image_write.specs.declared.draft.Draft.{Draft}
 use Rattle.image_write.specs.Image.{root, stream_header, stream_headers, headers_of, streams, metadata, tables}
 use Rattle.image_write.specs.Lengths.{tables_len, filled_len, metadata_len}
 use Rattle.image_write.specs.Pieces.{bytes_of, zeros, rounded, padded, filled}
-use Rattle.image_write.proofs.WrittenLengths.{length-bytes_of, length-zeros, length-structure, structure_len, length-padded, length-filled, length-tables}
+use Rattle.image_write.proofs.WrittenLengths.{length-bytes_of, length-structure, structure_len, length-padded, length-filled, length-tables}
 
 pub length-root : length root ≡ 32
 unfolding root structure_len

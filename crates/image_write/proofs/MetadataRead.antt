@@ -1,18 +1,16 @@
 -- The metadata that is written is read as it is.
-use Rattle.std.proofs.Common.{◌≡◌, ℕ, zero, suc, ◌+◌, ◌-◌, ◌*◌, ◌/◌, ◌^◌, ◌<◌, ◌≤◌, List, [], ◌∷◌, ◌++◌, length, get_or, slice_range, Bool, true, ◌&&◌, ◌==◌, nat_le, Option, None, Some, is_some, Ok, codes, refl, sym, ◌∙◌, ap, ap₂, subst, arith, length-append, eq-eqb}
+use Rattle.std.proofs.Common.{◌≡◌, ℕ, ◌+◌, ◌*◌, ◌/◌, ◌^◌, ◌<◌, ◌≤◌, List, [], ◌∷◌, ◌++◌, length, get_or, true, ◌==◌, nat_le, None, Some, is_some, Ok, codes, refl, sym, ◌∙◌, ap, arith}
 use Rattle.std.proofs.lemmas.Bool.{le-leb}
 use Rattle.std.proofs.lemmas.List.{append-nil}
-use Rattle.byteorder.specs.Endian.{little_number}
-use Rattle.clr_base.specs.LittleEndian.{number_at, u16_at, u32_at}
-use Rattle.clr_base.specs.Checks.{Check, outcome, first_fault, each}
+use Rattle.clr_base.specs.LittleEndian.{u16_at, u32_at}
+use Rattle.clr_base.specs.Checks.{Check, outcome}
 use Rattle.clr_base.proofs.Checks.{outcome_passed}
 use Rattle.cli_tables.specs.declared.root.Root.{Root}
 use Rattle.cli_tables.specs.declared.streams.Range.{Range}
 use Rattle.cli_tables.specs.declared.streams.Streams.{Streams}
 use Rattle.cli_tables.specs.declared.streams.StreamKind.TheVariants as kind
-use Rattle.cli_tables.specs.Root.{version_len, root_of, root_checks, has_root}
+use Rattle.cli_tables.specs.Root.{version_len, root_of, root_checks}
 use Rattle.cli_tables.specs.Streams.{kind_of, stream_checks, found}
-use Rattle.cli_tables.specs.Streams as headers
 use Rattle.cli_tables.specs.Metadata.{Metadata, part, streams_of, header_checks, read_of}
 use Rattle.cli_tables.specs.Layout.{are_tables}
 use Rattle.cli_tables.proofs.Reading.{read_whole, same_contents}
@@ -21,13 +19,13 @@ use Rattle.image_write.specs.declared.pieces.Field.{Field}
 use Rattle.image_write.specs.Fitting.{fits, crowded}
 use Rattle.image_write.specs.Image.{root, stream_header, headers_of, stream_headers, streams, metadata, tables}
 use Rattle.image_write.specs.Lengths.{tables_len, filled_len, metadata_len, image_len}
-use Rattle.image_write.specs.Pieces.{bytes_of, zeros, rounded, padded, filled, field, text_field, structure}
+use Rattle.image_write.specs.Pieces.{bytes_of, zeros, rounded, padded, filled, field, text_field}
 use Rattle.image_write.specs.ReadBack.{contents_of}
 use Rattle.image_write.proofs.CellsRead.{stream_whole}
 use Rattle.image_write.proofs.Fitted.{short}
-use Rattle.image_write.proofs.Found.{At, at_whole, at_front, at_more, at_behind, at_inside, at_place, at_field, at_within, number_found, range_found, ordered}
+use Rattle.image_write.proofs.Found.{At, at_whole, at_front, at_more, at_behind, at_inside, at_place, at_field, number_found, range_found, ordered}
 use Rattle.image_write.proofs.MetadataLengths.{length-root, length-stream_header, length-headers_of, length-stream, length-metadata}
-use Rattle.image_write.proofs.StreamHeaders.{IsHeader, Walk, header_read, walk_none, walk_next}
+use Rattle.image_write.proofs.StreamHeaders.{Walk, header_read, walk_none, walk_next}
 use Rattle.image_write.proofs.WrittenLengths.{length-padded, length-filled}
 
 -- the root
@@ -81,12 +79,16 @@ root_passes draft x =
 
 abbrev t_len : Draft → ℕ
 t_len draft = rounded (tables_len draft)
+
 abbrev s_len : Draft → ℕ
 s_len draft = rounded (length draft.strings)
+
 abbrev u_len : Draft → ℕ
 u_len draft = filled_len (length draft.users)
+
 abbrev g_len : Draft → ℕ
 g_len draft = rounded (length draft.guids)
+
 abbrev b_len : Draft → ℕ
 b_len draft = filled_len (length draft.blobs)
 

@@ -1,11 +1,11 @@
 -- A stream header that is written is read as it is, and a walk over such headers finds their streams.
-use Rattle.std.proofs.Common.{◌≡◌, ℕ, zero, suc, ◌+◌, ◌-◌, ◌*◌, ◌/◌, ◌^◌, ◌<◌, ◌≤◌, List, [], ◌∷◌, ◌++◌, length, take, drop, Bool, true, false, cond, not, ◌&&◌, ◌==◌, nat_lt, nat_le, Option, Some, None, is_some, Ok, refl, sym, ◌∙◌, ap, ap₂, subst, arith, append_assoc, length-append, min}
+use Rattle.std.proofs.Common.{◌≡◌, ℕ, zero, suc, ◌+◌, ◌*◌, ◌/◌, ◌^◌, ◌<◌, ◌≤◌, List, [], ◌∷◌, ◌++◌, length, take, drop, Bool, true, not, ◌==◌, nat_lt, nat_le, Option, Some, is_some, Ok, refl, ◌∙◌, ap, ap₂, subst, arith, append_assoc, length-append}
 use Rattle.std.proofs.lemmas.Bool.{le-leb}
 use Rattle.std.proofs.lemmas.List.{take_at, length-take}
 use Rattle.std.specs.List.{list_all, position, prefix_len}
 use Rattle.std.specs.Option.{unwrap_or}
-use Rattle.clr_base.specs.LittleEndian.{u32_at, has_range}
-use Rattle.clr_base.specs.Checks.{outcome, first_fault, each}
+use Rattle.clr_base.specs.LittleEndian.{has_range}
+use Rattle.clr_base.specs.Checks.{first_fault, each}
 use Rattle.clr_base.proofs.Checks.{each_none, each_passed}
 use Rattle.cli_tables.proofs.SchemaFacts.{first_of_both, last_of_both}
 use Rattle.cli_tables.specs.declared.streams.Range.{Range}

@@ -1,25 +1,24 @@
 -- The stream `#~` that is written is read as it is: which tables have rows, how many, how wide, and where they begin.
-use Rattle.std.proofs.Common.{◌≡◌, ℕ, zero, suc, ◌+◌, ◌-◌, ◌*◌, ◌^◌, ◌<◌, ◌≤◌, List, [], ◌∷◌, ◌++◌, length, map, take, get_or, slice_index, Bool, true, false, ◌&&◌, ◌||◌, not, nat_lt, nat_le, if◌then◌else◌, refl, sym, ◌∙◌, ap, ap₂, subst, arith, length-append, ◌⊎◌, inl, inr}
-use Rattle.std.proofs.lemmas.Bool.{leb-true, le-leb, lt-leb}
+use Rattle.std.proofs.Common.{◌≡◌, ℕ, zero, suc, ◌+◌, ◌-◌, ◌*◌, ◌^◌, ◌<◌, ◌≤◌, List, [], ◌∷◌, ◌++◌, length, map, get_or, slice_index, Bool, true, false, ◌&&◌, nat_lt, if◌then◌else◌, refl, sym, ◌∙◌, ap, ap₂, arith}
+use Rattle.std.proofs.lemmas.Bool.{le-leb, lt-leb}
 use Rattle.std.proofs.lemmas.List.FromFn.{length-map-range_with_len, get_or-map-range_with_len}
 use Rattle.std.proofs.lemmas.List.{ext_get_or}
-use Rattle.std.proofs.Math.ListN.{get_or-eq_default}
-use Rattle.std.specs.List.{list_all, range_with_len}
-use Rattle.clr_base.specs.LittleEndian.{number_at, u32_at, u64_at}
+use Rattle.std.specs.List.{range_with_len}
+use Rattle.clr_base.specs.LittleEndian.{number_at, u32_at}
 use Rattle.cli_tables.specs.Layout.{sum_below, one_if, has_bit, heap_sizes, row_count, row_counts, rows_at, present_in, row_width, start, widths}
 use Rattle.cli_tables.specs.Layout as layout
 use Rattle.cli_tables.specs.Schema.{columns}
 use Rattle.image_write.specs.declared.draft.Draft.{Draft}
 use Rattle.image_write.specs.declared.pieces.Field.{Field}
-use Rattle.image_write.specs.Drafts.{column_count, rows, has_rows, counts, is_wide, heap_bits, valid, mask_below, row_len, column_width}
+use Rattle.image_write.specs.Drafts.{rows, has_rows, counts, is_wide, heap_bits, valid, row_len}
 use Rattle.image_write.specs.Image.{count_bytes, table_bytes, tables_header, tables}
-use Rattle.image_write.specs.Lengths.{present_below, rows_len_below, tables_len, image_len}
+use Rattle.image_write.specs.Lengths.{present_below, rows_len_below, image_len}
 use Rattle.image_write.specs.Pieces.{bytes_of, zeros, rounded, padded, field, structure, joined}
 use Rattle.image_write.proofs.Bits.{bit_of, mask_small}
 use Rattle.image_write.proofs.Found.{At, at_whole, at_front, at_more, at_behind, at_inside, at_place, at_joined, at_field, number_found, ordered}
 use Rattle.image_write.proofs.Shortness.{rows_few}
 use Rattle.image_write.proofs.Sizes.{one_small}
-use Rattle.image_write.proofs.WrittenLengths.{length-tables_header, length-joined, length-counts, length-rows, sum_same}
+use Rattle.image_write.proofs.WrittenLengths.{length-tables_header, length-joined, length-counts, sum_same}
 
 -- the stream, as it stands in the metadata
 abbrev pub stream : Draft → List ℕ

@@ -1,9 +1,16 @@
 pub mod Bounds
 pub mod CanonLemmas
 pub mod Folds
+pub mod GrammarLemmas
+pub mod ListLoop
+pub mod LookupLemmas
+pub mod PrintedLemmas
+pub mod ReadingLemmas
 pub mod SharedLemmas
 pub mod SubstLemmas
 pub mod SubstMeasureLemmas
+pub mod TextLemmas
 pub mod TokenLemmas
+pub mod TreeReading
 pub mod Trees
 pub mod WholeLemmas

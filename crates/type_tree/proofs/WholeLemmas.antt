@@ -142,3 +142,15 @@ numbered w f h e =
     let most = few w h in
     let facts = file_facts w f e in
     record { sigs = omega arith; fields = omega arith; methods = omega arith }
+
+-- the definitions that rules name
+pub record Named (w : Facts) : Type 0 where
+  pub value_type : w.value_type.0 < length w.defs
+  pub enumeration : w.enumeration.0 < length w.defs
+  pub canon : w.canon.0 < length w.defs
+
+pub named : (w : Facts) → IsWhole w → Named w
+named w h =
+    let a = and_parts _ _ (parts w h).named in
+    let b = and_parts _ _ a.0 in
+    record { value_type = ltb-true _ _ b.0; enumeration = ltb-true _ _ b.1; canon = ltb-true _ _ a.1 }

@@ -3,11 +3,15 @@ pub mod Canon
 pub mod Context
 pub mod Fits
 pub mod Kinds
+pub mod Lookup
 pub mod Measure
+pub mod ReadTexts
+pub mod Reading
 pub mod Same
 pub mod SameLaws
 pub mod Subst
 pub mod SubstMeasure
+pub mod Texts
 pub mod Tokens
 pub mod UserStrings
 pub mod Whole

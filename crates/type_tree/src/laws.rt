@@ -1,9 +1,12 @@
-//! Laws of substitution and of the canonical form. Each is a function that does nothing and whose
+//! Laws of substitution, of the canonical form and of texts. Each is a function that does nothing and whose
 //! clause is the law.
 
-ghost use Rattle.std.specs.Prelude.{◌≡◌, [], IsTrue};
+ghost use Rattle.std.specs.Prelude.{◌≡◌, ◌↔◌, ◌≤◌, ℕ, List, [], IsTrue};
 ghost use Rattle.type_tree.specs.Canon as canon;
+ghost use Rattle.type_tree.specs.Measure.{depth};
+ghost use Rattle.type_tree.specs.ReadTexts as read;
 ghost use Rattle.type_tree.specs.Subst as spec;
+ghost use Rattle.type_tree.specs.Texts as texts;
 
 use crate::tree::{Key, Ty, TyList};
 use crate::world::World;
@@ -40,4 +43,22 @@ pub fn shared_form_of_substituted(_world: &World, _t: &Ty, _types: &TyList, _met
     ensures { canon.shared_form _world.now (spec.subst_ty _types.now _methods.now _t.now)
         ≡ canon.shared_form _world.now
         (spec.subst_ty (canon.shared_forms _world.now _types.now) (canon.shared_forms _world.now _methods.now) _t.now) }
+{}
+
+/// A text names at most one tree.
+pub fn one_tree_of_a_text(_world: &World, _t: &Ty, _other: &Ty)
+    ensures { (text : List ℕ) → read.Names _world.now text _t.now → read.Names _world.now text _other.now → _t.now ≡ _other.now }
+{}
+
+/// A text names a tree exactly where it is the tree's own text and the tree is made of arrays and of
+/// definitions that their names find.
+pub fn text_of_a_named_tree(_world: &World, _t: &Ty)
+    ensures { (text : List ℕ) → read.Names _world.now text _t.now ↔ ((texts.type_text _world.now _t.now ≡ text) × IsTrue (read.is_readable _world.now _t.now)) }
+{}
+
+/// The text of such a tree is read as that tree, where it is not deeper than 64, and as no other.
+pub fn printed_tree_is_read_back(_world: &World, _t: &Ty, _other: &Ty)
+    requires named { IsTrue (read.is_readable _world.now _t.now) }
+    requires shallow { depth _t.now ≤ 64 }
+    ensures { read.Reads _world.now (texts.type_text _world.now _t.now) _other.now ↔ (_other.now ≡ _t.now) }
 {}

@@ -9,17 +9,24 @@ mod definition;
 mod equality;
 mod kinds;
 mod laws;
+mod lookup;
 mod measure;
 mod parts;
+mod read_text;
 mod subst_measure;
 mod substitution;
 #[cfg(test)]
 mod tests;
+mod text;
+#[cfg(test)]
+mod text_tests;
 mod tokens;
 mod tree;
 mod user_strings;
 mod whole;
 mod world;
+#[cfg(test)]
+mod world_tests;
 #[cfg(test)]
 mod worlds;
 
@@ -31,11 +38,14 @@ pub use definition::{Def, Field, Formal, Impl, Method};
 pub use equality::{same, same_all, same_key};
 pub use kinds::{is_reference, is_value};
 pub use laws::{
-    canonical_of_canonical, nothing_put_in, shared_form_of_substituted, two_substitutions,
+    canonical_of_canonical, nothing_put_in, one_tree_of_a_text, printed_tree_is_read_back,
+    shared_form_of_substituted, text_of_a_named_tree, two_substitutions,
 };
 pub use measure::{depth, depth_of_all, depth_of_key, weight, weight_of_all, weight_of_key};
 pub use parts::{BodyPlace, Locals, Member, Root, Token, WorldFile, WorldParts};
+pub use read_text::read_type_text;
 pub use subst_measure::{subst_depth, subst_weight};
 pub use substitution::{subst, subst_all, subst_ty};
+pub use text::type_text;
 pub use tree::{Key, KeyList, MethKey, Ty, TyList};
 pub use world::World;

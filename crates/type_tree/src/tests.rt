@@ -158,3 +158,33 @@ fn names_of_definitions(rt: HostRuntime) -> Result<(), Fail> {
     assert_eq!(rt; world.name(pair.name), "N.Outer+Pair`2");
     Ok(())
 }
+
+/// What a signature stands for in a context.
+fn stands_for(alloc: Global, context: Option<&Key>, sig: Ty, wanted: Ty) -> Result<bool, Memory> {
+    let key = key_of(alloc, context, &Key::Tree(sig))?;
+    Ok(same_key(&key, &Key::Tree(wanted)))
+}
+
+#[test]
+fn signatures_in_a_type(rt: HostRuntime) -> Result<(), Fail> {
+    let alloc = rt.alloc();
+    let context = Key::Tree(of(alloc, G, plain(alloc, STRING))?);
+    let strings = array(alloc, plain(alloc, STRING))?;
+    assert!(rt; stands_for(alloc, Some(&context), array(alloc, Ty::Var(0))?, strings)?);
+    assert!(rt; stands_for(alloc, Some(&context), Ty::MVar(0), Ty::MVar(0))?);
+    assert!(rt; stands_for(alloc, None, Ty::Var(0), Ty::Var(0))?);
+    Ok(())
+}
+
+#[test]
+fn signatures_in_a_method(rt: HostRuntime) -> Result<(), Fail> {
+    let alloc = rt.alloc();
+    let context = Key::Meth(MethKey {
+        owner: of(alloc, G, plain(alloc, STRING))?,
+        method: MethId(0),
+        args: list(alloc, plain(alloc, INT))?,
+    });
+    assert!(rt; stands_for(alloc, Some(&context), Ty::Var(0), plain(alloc, STRING))?);
+    assert!(rt; stands_for(alloc, Some(&context), Ty::MVar(0), plain(alloc, INT))?);
+    Ok(())
+}

@@ -206,23 +206,36 @@ impl World {
         text_in(file.users.as_slice(), index)
     }
 
+    /// A law: the parts of a world are whole, so whatever `WorldParts::is_whole` tests holds of them.
+    pub fn whole(&self)
+        ensures { IsWhole self.now }
+    {
+        let _ = &self.parts;
+    }
+
     /// System.ValueType.
+    #[tactic(auto, using(crate::proofs::Bounds::value_type_exists))]
     pub fn value_type(&self) -> DefId
-        ensures { result ≡ self.now.value_type }
+        ensures value { result ≡ self.now.value_type }
+        ensures exists { result.0 < length self.now.defs }
     {
         self.parts.value_type
     }
 
     /// System.Enum.
+    #[tactic(auto, using(crate::proofs::Bounds::enumeration_exists))]
     pub fn enumeration(&self) -> DefId
-        ensures { result ≡ self.now.enumeration }
+        ensures value { result ≡ self.now.enumeration }
+        ensures exists { result.0 < length self.now.defs }
     {
         self.parts.enumeration
     }
 
     /// System.__Canon, which stands for every reference type.
+    #[tactic(auto, using(crate::proofs::Bounds::canon_exists))]
     pub fn canon(&self) -> DefId
-        ensures { result ≡ self.now.canon }
+        ensures value { result ≡ self.now.canon }
+        ensures exists { result.0 < length self.now.defs }
     {
         self.parts.canon
     }

@@ -78,7 +78,7 @@ fn defs(alloc: Global) -> Result<Items<Def>, Memory> {
     Ok(defs)
 }
 
-fn parts(alloc: Global) -> Result<WorldParts, Memory> {
+pub fn small_parts(alloc: Global) -> Result<WorldParts, Memory> {
     let names = names(alloc)?;
     let defs = defs(alloc)?;
     let files = files(alloc)?;
@@ -135,7 +135,7 @@ fn file(alloc: Global) -> WorldFile {
 }
 
 pub fn small_world(rt: &impl Abort, alloc: Global) -> Result<World, Memory> {
-    let parts = parts(alloc)?;
+    let parts = small_parts(alloc)?;
     assert!(rt; parts.is_whole());
     Ok(World::new(parts))
 }
