@@ -1,6 +1,6 @@
 -- The numbers of the core's names.
 use Rattle.std.proofs.Common.{◌≡◌, ℕ, ◌+◌, ◌<◌, arith, Bool, true, false, ◌&&◌, ◌||◌, List, [], ◌∷◌, ◌++◌, map, refl, sym, ap, ap₂, ◌∙◌, eqb-true, if◌then◌else◌}
-use Rattle.std.specs.Prelude.{◌==◌, nat_lt}
+use Rattle.std.specs.Prelude.{◌==◌, nat_lt, not}
 use Rattle.std.specs.List.{range_with_len, flat_map, list_all, list_any}
 use Rattle.std.specs.Str.{bytes_eq}
 use Rattle.std.proofs.lemmas.Bool.{and_parts, ltb-true, lt-ltb}
@@ -14,7 +14,7 @@ use Rattle.world_build.specs.declared.core_table.MemberName.TheVariants as membe
 use Rattle.world_build.specs.CoreLibrary.{names, name_id, texts_in_order}
 use Rattle.world_build.specs.CoreTable.{texts, text, def_text, member_text, member_number, method_rows}
 use Rattle.world_build.specs.Names.{number_in, with_one, with_all}
-use Rattle.world_build.proofs.Ranges.{all_below, below}
+use Rattle.world_build.proofs.Ranges.{all_below, below, next}
 
 -- ---- each text of the table stands there once
 
@@ -90,6 +90,26 @@ pub names_listed : map text (range_with_len 0 52) ≡ names
 unfolding names
 names_listed =
     sym (ap (with_all bytes_eq []) texts_are ∙ with_all_texts [] numbers_in_order refl all_small ∙ ap (map text) numbers_once)
+
+-- the next number is none of those before it
+all_new : all_below (λ k. not (list_any (λ j. k == j) (range_with_len 0 k))) 52 ≡ true
+all_new = refl
+
+not_false : (b : Bool) → not b ≡ true → b ≡ false
+not_false true e = absurd cc
+not_false false e = refl
+
+small_below : (k : ℕ) → k < 53 → are_small (range_with_len 0 k) ≡ true
+small_below k few = below (λ j. are_small (range_with_len 0 j)) 53 k refl few
+
+-- so the next name is added behind those before it
+pub name_more : (k : ℕ) → k < 52 → with_one bytes_eq (map text (range_with_len 0 k)) (text k) ≡ map text (range_with_len 0 (k + 1))
+name_more k few =
+    let fits : k < 53 = omega arith in
+    let new = not_false _ (below (λ n. not (list_any (λ j. n == j) (range_with_len 0 n))) 52 k all_new few) in
+    with_one_text k (range_with_len 0 k) few (small_below k fits)
+    ∙ ap (λ (b : Bool). map text (if b then range_with_len 0 k else range_with_len 0 k ++ k ∷ [])) new
+    ∙ ap (map text) (sym (next k))
 
 names_are : names ≡ texts
 unfolding text

@@ -9,7 +9,8 @@ use crate::core_table::{
     method_count, method_rows,
 };
 use crate::core_type::CoreType;
-use clr_base::{DefId, Memory, NameId, Text};
+use crate::names::Names;
+use clr_base::{DefId, Memory, NameId};
 use sqlite_items::Items;
 use std::alloc::Global;
 use type_tree::{Def, Field, Formal, Method, Ty, TyList};
@@ -17,8 +18,8 @@ use type_tree::{Def, Field, Formal, Method, Ty, TyList};
 /// The parts of a world that are the core library's.
 #[derive(Debug, Drop)]
 pub struct CoreParts {
-    /// Its names, each once.
-    pub names: Items<Text>,
+    /// Its names.
+    pub names: Names,
     /// Its definitions, each at its number.
     pub defs: Items<Def>,
     /// Its methods, in the order of the definitions.
@@ -207,12 +208,12 @@ fn defs(alloc: Global) -> Result<Items<Def>, Memory>
     Ok(defs)
 }
 
-fn names(alloc: Global) -> Result<Items<Text>, Memory>
+fn names(alloc: Global) -> Result<Names, Memory>
     ensures { IfOk result (λ names. names ≡ spec.names) }
 {
-    let mut names = Items::new(alloc);
+    let mut names = Names::new(alloc);
     for number in 0..NAME_COUNT {
-        names.push(Text::from_str(alloc, core_name(number))?)?;
+        let _number = names.number(alloc, core_name(number))?;
     }
     Ok(names)
 }

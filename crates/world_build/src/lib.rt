@@ -4,6 +4,7 @@
 mod core_parts;
 mod core_table;
 mod core_type;
+mod names;
 #[cfg(test)]
 mod tests;
 
@@ -13,3 +14,4 @@ pub use core_table::{
     MemberName, MethodKind, NAME_COUNT, Params, SigType, core_name, def_row, method_rows,
 };
 pub use core_type::CoreType;
+pub use names::Names;

@@ -182,10 +182,11 @@ fn definition_line(
 fn definitions_of_the_core(rt: HostRuntime) -> Result<(), Fail> {
     let alloc = rt.alloc();
     let parts = core_library(alloc)?;
+    let names = parts.names.texts(alloc)?;
     assert_eq!(rt; parts.defs.len(), 36);
     for (number, wanted) in DEFINITIONS.iter().enumerate() {
         let def = parts.defs.get(number).ok_or("no definition")?;
-        let line = definition_line(alloc, &parts.names, def, number as u32)?;
+        let line = definition_line(alloc, &names, def, number as u32)?;
         assert_eq!(rt; line.as_str(), *wanted);
     }
     Ok(())
@@ -236,18 +237,16 @@ fn wanted_lines(alloc: Global, number: u32, own: &str) -> Result<Vec<String>, Me
 fn methods_of_the_core(rt: HostRuntime) -> Result<(), Fail> {
     let alloc = rt.alloc();
     let parts = core_library(alloc)?;
+    let names = parts.names.texts(alloc)?;
     let mut next: usize = 0;
     for (def, number) in parts.defs.as_slice().iter().zip(0u32..36) {
-        let own = name(&parts.names, def.name.0);
+        let own = name(&names, def.name.0);
         let lines = wanted_lines(alloc, number, own)?;
         assert_eq!(rt; def.first_method as usize, next, "{own}");
         assert_eq!(rt; def.methods as usize, lines.len(), "{own}");
         for line in lines.iter() {
             let method = parts.methods.get(next).ok_or("no method")?;
-            assert_eq!(rt;
-                method_line(alloc, &parts.names, method)?.as_str(),
-                line.as_str()
-            );
+            assert_eq!(rt; method_line(alloc, &names, method)?.as_str(), line.as_str());
             assert_eq!(rt; method.def.0, number);
             next = next.wrapping_add(1);
         }
@@ -259,8 +258,8 @@ fn methods_of_the_core(rt: HostRuntime) -> Result<(), Fail> {
 
 #[test]
 fn names_of_the_core(rt: HostRuntime) -> Result<(), Fail> {
-    let parts = core_library(rt.alloc())?;
-    assert_eq!(rt; parts.names.len(), 52);
+    let names = core_library(rt.alloc())?.names.texts(rt.alloc())?;
+    assert_eq!(rt; names.len(), 52);
     for (number, wanted) in [
         (0, "System.Object"),
         (25, "System.Collections.Generic.IComparer`1"),
@@ -270,8 +269,30 @@ fn names_of_the_core(rt: HostRuntime) -> Result<(), Fail> {
         (41, "CompareTo"),
         (51, "Write"),
     ] {
-        assert_eq!(rt; name(&parts.names, number), wanted);
+        assert_eq!(rt; name(&names, number), wanted);
     }
+    Ok(())
+}
+
+#[test]
+fn names_once_each(rt: HostRuntime) -> Result<(), Fail> {
+    let alloc = rt.alloc();
+    let mut names = Names::new(alloc);
+    for (text, number, len) in [
+        ("B", 0, 1),
+        ("A", 1, 2),
+        ("B", 0, 2),
+        ("", 2, 3),
+        ("A", 1, 3),
+    ] {
+        assert!(rt; names.len() < 10);
+        assert_eq!(rt; names.number(alloc, text)?.0, number, "{text}");
+        assert_eq!(rt; names.len(), len);
+    }
+    let texts = names.texts(alloc)?;
+    assert_eq!(rt; name(&texts, 0), "B");
+    assert_eq!(rt; name(&texts, 1), "A");
+    assert_eq!(rt; name(&texts, 2), "");
     Ok(())
 }
 
@@ -288,7 +309,7 @@ fn world_of_the_core(alloc: Global) -> Result<WorldParts, Memory> {
         bodies.push(None)?;
     }
     Ok(WorldParts {
-        names,
+        names: names.texts(alloc)?,
         defs,
         methods,
         bodies,
