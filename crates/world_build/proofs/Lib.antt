@@ -1,0 +1,4 @@
+mod CoreFacts
+mod CoreNames
+mod NameLemmas
+mod Ranges
