@@ -2,7 +2,7 @@
 use Rattle.std.proofs.Common.{◌≡◌, ◌≢◌, ◌⊎◌, inl, inr, ℕ, zero, suc, ◌<◌, ◌≤◌, List, ◌++◌, false, cond, eqb, refl, sym, ap, ◌∙◌, codes, arith, append_assoc}
 use Rattle.std.proofs.lemmas.Bool.Decides.{eqb_tells}
 use Rattle.cli_tables.specs.Metadata.{Metadata}
-use Rattle.clr_core.specs.Nesting.{if_before, enclosing_row}
+use Rattle.world_build.specs.Nesting.{if_before, enclosing_row}
 use Rattle.clr_core.specs.Names.{type_text, qualifier, qualified_name, name_within, full_name}
 
 none_or_before : (row outer : ℕ) → (if_before row outer ≡ 0) ⊎ (if_before row outer < row)

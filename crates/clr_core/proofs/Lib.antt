@@ -1,9 +1,5 @@
-pub mod Enclosing
 pub mod Endings
 pub mod FullNames
-pub mod Giving
-pub mod Inside
 pub mod Listed
 pub mod Listing
-pub mod Noted
-pub mod Passing
+pub mod Listings

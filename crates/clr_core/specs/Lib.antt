@@ -1,9 +1,4 @@
 pub mod Command
 pub mod Ends
-pub mod Image
 pub mod Lines
 pub mod Names
-pub mod Nesting
-pub mod Refusals
-pub mod Rows
-pub mod RowsBefore

@@ -7,8 +7,8 @@ use Rattle.cli_tables.specs.Heaps.{text_at}
 use Rattle.cli_tables.specs.Layout.{cell, row_count}
 use Rattle.cli_tables.specs.Metadata.{Metadata}
 use Rattle.clr_core.specs.declared.names.Place.{Place}
-use Rattle.clr_core.specs.Image.{image_checks, metadata_in}
-use Rattle.clr_core.specs.Nesting.{enclosing_row}
+use Rattle.world_build.specs.Image.{image_checks, metadata_in}
+use Rattle.world_build.specs.Nesting.{enclosing_row}
 
 -- the text that a cell of TypeDef (ECMA-335 II.22.37) has the index of
 unfoldable pub type_text : Metadata → ℕ → ℕ → List ℕ

@@ -2,18 +2,10 @@
 #![tactic(auto)]
 
 mod command;
-mod image;
 mod lines;
 mod names;
-mod nesting;
-mod refusal;
-mod row_rules;
-mod rows;
 mod status;
 mod top;
 
 pub use status::{Outcome, Status};
 pub use top::{clr, clr_quiet};
-
-#[cfg(test)]
-mod tests;

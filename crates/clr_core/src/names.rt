@@ -2,14 +2,13 @@
 ghost use Rattle.std.specs.Prelude.{◌≡◌, ◌-◌, ◌++◌, ◌≤◌, ◌⊎◌, IfOk, OnOk};
 ghost use Rattle.cli_tables.specs.Layout.{row_count};
 ghost use Rattle.clr_core.specs.Names as spec;
-ghost use Rattle.clr_core.specs.Nesting.{AreTypesNamed, enclosing_row};
+ghost use Rattle.world_build.specs.Nesting.{AreTypesNamed, enclosing_row};
 
-use crate::nesting::enclosing_rows;
-use crate::rows::TYPE_DEF;
 use cli_tables::Tables;
 use clr_base::{Bytes, Memory};
 use sqlite_items::Items;
 use std::alloc::Global;
+use world_build::{TYPE_DEF, enclosing_rows};
 
 /// The column Name of TypeDef (ECMA-335 II.22.37).
 const NAME: u8 = 1;

@@ -8,14 +8,13 @@ ghost use Rattle.clr_core.specs.Ends.{Happened, Keeps, Says, EndsWith, end_of, s
 ghost use Rattle.clr_core.specs.Lines.{refused_line};
 
 use crate::command;
-use crate::image::read_image;
 use crate::lines::say_stop;
 use crate::names::names_text;
-use crate::refusal::Refusal;
 use crate::status::{Outcome, Status, Stop};
 use clr_base::{FetchFault, Gate, Shelf, Sink, put_all};
 use std::alloc::Global;
 use std::thread::Threads;
+use world_build::{Refusal, read_image};
 
 /// Words, fetch, checks, text, write: the whole text is there before the first write.
 fn run<'a, F: Shelf, O: Sink>(

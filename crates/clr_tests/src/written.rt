@@ -130,3 +130,35 @@ fn nested_and_generic_types(rt: HostRuntime) -> Result<(), Fail> {
     }
     Ok(())
 }
+
+/// The types `Ns.A`, `B` and `Ns.C`, in the rows 2 to 4, with these rows of NestedClass.
+fn nested(alloc: Global, rows: &[(u32, u32)]) -> Result<Assembly, AllocError> {
+    let mut kit = Assembly::new(alloc, "m.dll")?;
+    for (namespace, name) in [("Ns", "A"), ("", "B"), ("Ns", "C")] {
+        kit.define(types::CLASS, namespace, name, NOTHING)?;
+    }
+    for (inner, outer) in rows {
+        kit.row(0x29, &[*inner, *outer])?;
+    }
+    Ok(kit)
+}
+
+#[test]
+fn full_names(rt: HostRuntime) -> Result<(), Fail> {
+    // The rows of NestedClass, and the lines behind those of the file and of `<Module>`.
+    for (rows, lines) in [
+        (&[][..], b"  Ns.A\n  B\n  Ns.C\n".as_slice()),
+        (&[(3, 2)], b"  Ns.A\n  Ns.A+B\n  Ns.C\n"),
+        (&[(4, 3)], b"  Ns.A\n  B\n  B+C\n"),
+        (&[(3, 2), (4, 3)], b"  Ns.A\n  Ns.A+B\n  Ns.A+B+C\n"),
+        (&[(4, 3), (3, 2)], b"  Ns.A\n  Ns.A+B\n  Ns.A+B+C\n"),
+        (&[(4, 2), (3, 2)], b"  Ns.A\n  Ns.A+B\n  Ns.A+C\n"),
+    ] {
+        let draft = nested(rt.alloc(), rows)?.draft()?;
+        let image = image(&rt, rt.alloc(), &draft)?;
+        let ran = run(&rt, rt.alloc(), &["names", "m.dll"], &image, NOTHING_FAILS)?;
+        assert_eq!(rt; ran.status, Status::Done);
+        assert_eq!(rt; ran.out.strip_prefix(b"m.dll\n  <Module>\n".as_slice()), Some(lines));
+    }
+    Ok(())
+}

@@ -1,4 +1,9 @@
-mod CoreFacts
-mod CoreNames
-mod NameLemmas
-mod Ranges
+pub mod CoreFacts
+pub mod CoreNames
+pub mod Enclosing
+pub mod Giving
+pub mod Inside
+pub mod NameLemmas
+pub mod Noted
+pub mod Passing
+pub mod Ranges

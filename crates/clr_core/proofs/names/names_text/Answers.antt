@@ -1,7 +1,7 @@
 use Rattle.std.proofs.Common.{◌+◌, ◌++◌, ◌∙◌, codes, arith}
 use Rattle.clr_core.specs.Names.{type_line}
 use Rattle.clr_core.proofs.Listing.{line_more}
-use Rattle.clr_core.proofs.Enclosing.{enclosing_inside, enclosing_read}
+use Rattle.world_build.proofs.Enclosing.{enclosing_inside, enclosing_read}
 use Rattle.clr_core.proofs.names.names_text.Goals as goal
 
 pub loop-row-preserved : goal.loop-row-preserved

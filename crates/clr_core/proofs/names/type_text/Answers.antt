@@ -1,7 +1,7 @@
 use Rattle.std.proofs.Common.{◌≡◌, true, sym, subst}
 use Rattle.cli_tables.specs.Heaps.{text_at}
-use Rattle.clr_core.specs.Rows.{is_text}
-use Rattle.clr_core.proofs.Passing.{text_column, is_read}
+use Rattle.world_build.specs.Rows.{is_text}
+use Rattle.world_build.proofs.Passing.{text_column, is_read}
 use Rattle.clr_core.proofs.names.type_text.Goals as goal
 
 pub cell-requires : goal.cell-requires

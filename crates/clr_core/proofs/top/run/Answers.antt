@@ -1,7 +1,7 @@
 use Rattle.std.proofs.Common.{Err, sym, ap, refl, ◌∙◌}
-use Rattle.clr_core.proofs.Giving.{given_fault}
-use Rattle.clr_core.proofs.Inside.{answers_fault, answers_text}
-use Rattle.clr_core.proofs.Passing.{are_types_named}
+use Rattle.world_build.proofs.Giving.{given_fault}
+use Rattle.clr_core.proofs.Listings.{answers_fault, answers_text}
+use Rattle.world_build.proofs.Passing.{are_types_named}
 use Rattle.clr_core.proofs.top.run.Goals as goal
 
 pub returns-in-Err-Fault-clause-happened : goal.returns-in-Err-Fault-clause-happened

@@ -1,0 +1,105 @@
+-- The metadata of a file that passes the checks of its headers lies in the file; and how the parts of a file's checks join.
+use Rattle.std.proofs.Common.{◌≡◌, ℕ, ◌+◌, ◌≤◌, Bool, true, false, ◌&&◌, cond, List, [], ◌++◌, length, Option, None, Some, is_some, unwrap_or, Ok, Err, refl, sym, ap, ◌∙◌, subst, arith, slice_range}
+use Rattle.std.proofs.lemmas.Bool.{leb-true}
+use Rattle.std.proofs.lemmas.List.{append-nil}
+use Rattle.std.specs.Option.{option_and_then}
+use Rattle.std.specs.List.{find}
+use Rattle.clr_base.specs.declared.image_fault.ImageFault.{ImageFault}
+use Rattle.clr_base.specs.declared.image_fault.FaultKind.TheVariants.{NotPe}
+use Rattle.clr_base.specs.Checks.{Check, outcome, first_fault}
+use Rattle.clr_base.proofs.Checks.{outcome_failed, outcome_passed, outcome_value, outcome_of_fault, passes_at}
+use Rattle.pe_image.specs.declared.locate.Places.{Places}
+use Rattle.pe_image.specs.declared.sections.Section.{Section}
+use Rattle.pe_image.specs.Metadata.{header_checks, range_checks, metadata_checks, metadata_of, metadata_range, metadata_rva, metadata_size, places}
+use Rattle.pe_image.specs.Sections.{covers, place_in, place_by, sections}
+use Rattle.cli_tables.specs.Metadata.{Metadata, read_checks, read_of}
+use Rattle.world_build.specs.Rows.{rows_checks}
+use Rattle.world_build.specs.Image.{metadata_bytes, metadata_in, image_checks, image_of}
+
+last_of_both : (a b : Bool) → (a && b) ≡ true → b ≡ true
+last_of_both true b e = e
+last_of_both false b e = cc
+
+placed : (good : Bool) (x at : ℕ) → cond good (Some x) None ≡ Some at → (good ≡ true) × (x ≡ at)
+placed true x at e = (refl, cc)
+placed false x at e = cc
+
+-- what a section places lies in the file
+inside_by : (bytes : List ℕ) (rva n : ℕ) (s : Option Section) (at : ℕ) → option_and_then (place_in bytes rva n) s ≡ Some at → at + n ≤ length bytes
+inside_by bytes rva n None at e = cc
+inside_by bytes rva n (Some s) at e =
+    let p = placed _ _ at e in
+    subst (λ (x : ℕ). x + n ≤ length bytes) p.1 (leb-true _ _ (last_of_both _ _ p.0))
+
+found : (o : Option ℕ) → is_some o ≡ true → o ≡ Some (unwrap_or o 0)
+found None e = cc
+found (Some x) e = refl
+
+inside_of : (bytes : List ℕ) (rva n : ℕ) → is_some (place_by bytes (sections bytes) rva n) ≡ true → unwrap_or (place_by bytes (sections bytes) rva n) 0 + n ≤ length bytes
+unfolding place_by
+inside_of bytes rva n e = inside_by bytes rva n (find (covers rva) (sections bytes)) _ (found (place_by bytes (sections bytes) rva n) e)
+
+range_passes : (bytes : List ℕ) (p : Places) → metadata_of bytes ≡ Ok p → is_some (metadata_range bytes) ≡ true
+unfolding header_checks range_checks
+range_passes bytes p e =
+    passes_at (metadata_checks bytes) 6 (record { passes = true; fault = record { kind = NotPe; place = 0 } }) (places bytes) p (omega arith) e
+
+pub is_inside : (bytes : List ℕ) (p : Places) → metadata_of bytes ≡ Ok p → p.meta_start + p.meta_len ≤ length bytes
+unfolding places
+is_inside bytes p e =
+    let is : p ≡ places bytes = outcome_value (metadata_checks bytes) (places bytes) p e in
+    rw is (inside_of bytes (metadata_rva bytes) (metadata_size bytes) (range_passes bytes p e))
+
+-- the bytes of the metadata, by the places that were found
+abbrev pub found_bytes : List ℕ → Places → List ℕ
+found_bytes bytes p = slice_range bytes p.meta_start (p.meta_start + p.meta_len)
+
+-- A file whose headers fail is refused so.
+pub headers_fail : (bytes : List ℕ) (f : ImageFault) → metadata_of bytes ≡ Err f → image_of bytes ≡ Err f
+headers_fail bytes f e =
+    outcome_failed (metadata_checks bytes) (read_checks (metadata_bytes bytes) ++ rows_checks (metadata_in bytes)) (places bytes) (metadata_in bytes) f e
+
+-- Where the headers pass, the checks behind them decide.
+headers_pass : (bytes : List ℕ) (p : Places) → metadata_of bytes ≡ Ok p
+    → image_of bytes ≡ outcome (read_checks (metadata_bytes bytes) ++ rows_checks (metadata_in bytes)) (metadata_in bytes)
+headers_pass bytes p e =
+    outcome_passed (metadata_checks bytes) (read_checks (metadata_bytes bytes) ++ rows_checks (metadata_in bytes)) (places bytes) p (metadata_in bytes) e
+
+same_bytes : (bytes : List ℕ) (p : Places) → metadata_of bytes ≡ Ok p → found_bytes bytes p ≡ metadata_bytes bytes
+unfolding metadata_bytes
+same_bytes bytes p e = ap (found_bytes bytes) (outcome_value (metadata_checks bytes) (places bytes) p e)
+
+-- So do those of the streams and tables.
+pub read_fails : (bytes : List ℕ) (p : Places) (f : ImageFault) → metadata_of bytes ≡ Ok p → read_of (found_bytes bytes p) ≡ Err f → image_of bytes ≡ Err f
+read_fails bytes p f e here =
+    let same : read_of (metadata_bytes bytes) ≡ Err f = ap read_of (sym (same_bytes bytes p e)) ∙ here in
+    headers_pass bytes p e
+    ∙ outcome_failed (read_checks (metadata_bytes bytes)) (rows_checks (metadata_in bytes)) (metadata_in bytes) (metadata_in bytes) f same
+
+read_passes : (bytes : List ℕ) (p : Places) (m : Metadata) → metadata_of bytes ≡ Ok p → read_of (found_bytes bytes p) ≡ Ok m
+    → (m ≡ metadata_in bytes) × (image_of bytes ≡ outcome (rows_checks (metadata_in bytes)) (metadata_in bytes))
+read_passes bytes p m e here =
+    let same : read_of (metadata_bytes bytes) ≡ Ok m = ap read_of (sym (same_bytes bytes p e)) ∙ here in (
+      outcome_value (read_checks (metadata_bytes bytes)) (metadata_in bytes) m same,
+      headers_pass bytes p e
+          ∙ outcome_passed (read_checks (metadata_bytes bytes)) (rows_checks (metadata_in bytes)) (metadata_in bytes) m (metadata_in bytes) same,
+    )
+
+-- And those of the rows.
+pub rows_fail : (bytes : List ℕ) (p : Places) (m : Metadata) (f : ImageFault) → metadata_of bytes ≡ Ok p → read_of (found_bytes bytes p) ≡ Ok m
+    → first_fault (rows_checks m) ≡ Err f → image_of bytes ≡ Err f
+rows_fail bytes p m f e here rows =
+    let both = read_passes bytes p m e here in
+    let same : first_fault (rows_checks (metadata_in bytes)) ≡ Err f = ap (λ v. first_fault (rows_checks v)) (sym both.0) ∙ rows in
+    both.1 ∙ outcome_of_fault (rows_checks (metadata_in bytes)) (tt {0}) (metadata_in bytes) f same
+
+-- Checks that pass give whatever value they are to give.
+pub passed_value : {X Y : Type 0} (checks : List Check) (x z : X) (y : Y) → outcome checks x ≡ Ok z → outcome checks y ≡ Ok y
+passed_value checks x z y e = ap (λ cs. outcome cs y) (sym (append-nil checks)) ∙ outcome_passed checks [] x z y e
+
+pub all_pass : (bytes : List ℕ) (p : Places) (m : Metadata) → metadata_of bytes ≡ Ok p → read_of (found_bytes bytes p) ≡ Ok m
+    → first_fault (rows_checks m) ≡ Ok (tt {0}) → image_of bytes ≡ Ok m
+all_pass bytes p m e here rows =
+    let both = read_passes bytes p m e here in
+    let same : first_fault (rows_checks (metadata_in bytes)) ≡ Ok (tt {0}) = ap (λ v. first_fault (rows_checks v)) (sym both.0) ∙ rows in
+    both.1 ∙ passed_value (rows_checks (metadata_in bytes)) (tt {0}) (tt {0}) (metadata_in bytes) same ∙ ap (λ (v : Metadata). Ok v) (sym both.0)

@@ -1,0 +1,30 @@
+use Rattle.std.proofs.Common.{sym, ◌∙◌, ap}
+use Rattle.std.proofs.lemmas.Result.{err_from_is_err_and}
+use Rattle.cli_tables.specs.Metadata.{read_of}
+use Rattle.world_build.proofs.Giving.{gives_fault, gives_on}
+use Rattle.world_build.proofs.Inside.{headers_fail, is_inside, read_fails, rows_fail, all_pass}
+use Rattle.world_build.proofs.image.read_image.Goals as goal
+
+pub returns-in_err-places-clause-exact : goal.returns-in_err-places-clause-exact
+returns-in_err-places-clause-exact c =
+    let p = err_from_is_err_and c.from_residual.result c.from_residual.ensures.1 in
+    gives_fault _ p.0 _ _ p.1 p.2 (headers_fail c.args.bytes.now _ (sym c.in_err-places.ensures))
+
+pub metadata_part-requires : goal.metadata_part-requires
+metadata_part-requires c = is_inside c.args.bytes.now c.in_ok-places.places (sym c.in_ok-places.ensures)
+
+pub returns-in_err-tables-clause-exact : goal.returns-in_err-tables-clause-exact
+returns-in_err-tables-clause-exact c =
+    let p = err_from_is_err_and c.from_residual-in_err-tables.result c.from_residual-in_err-tables.ensures.1 in
+    gives_fault _ p.0 _ _ p.1 p.2
+    (read_fails c.args.bytes.now c.in_ok-places.places _ (sym c.in_ok-places.ensures) (ap read_of (sym c.metadata_part.ensures) ∙ sym c.in_err-tables.ensures))
+
+pub returns-in_err-check_rows-clause-exact : goal.returns-in_err-check_rows-clause-exact
+returns-in_err-check_rows-clause-exact c =
+    let p = err_from_is_err_and c.from_residual-in_err-check_rows.result c.from_residual-in_err-check_rows.ensures.1 in
+    gives_on _ p.0 _ _ _ p.1 p.2 c.in_err-check_rows.ensures
+    (λ f fails. rows_fail c.args.bytes.now c.in_ok-places.places c.in_ok-tables.tables f (sym c.in_ok-places.ensures) (ap read_of (sym c.metadata_part.ensures) ∙ sym c.in_ok-tables.ensures) fails)
+
+pub returns-clause-exact : goal.returns-clause-exact
+returns-clause-exact c =
+    all_pass c.args.bytes.now c.in_ok-places.places c.in_ok-tables.tables (sym c.in_ok-places.ensures) (ap read_of (sym c.metadata_part.ensures) ∙ sym c.in_ok-tables.ensures) c.in_ok-check_rows.ensures

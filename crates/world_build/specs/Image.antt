@@ -1,0 +1,23 @@
+-- A whole file: its metadata, or the first of all its checks that fails.
+use Rattle.std.specs.Prelude.{ℕ, ◌+◌, List, ◌++◌, slice_range, Result}
+use Rattle.clr_base.specs.declared.image_fault.ImageFault.{ImageFault}
+use Rattle.clr_base.specs.Checks.{Check, outcome}
+use Rattle.pe_image.specs.Metadata.{metadata_checks, places}
+use Rattle.cli_tables.specs.Metadata.{Metadata, read_checks, contents}
+use Rattle.world_build.specs.Rows.{rows_checks}
+
+-- the bytes of the metadata, as the headers place it
+unfoldable pub metadata_bytes : List ℕ → List ℕ
+metadata_bytes bytes = slice_range bytes (places bytes).meta_start ((places bytes).meta_start + (places bytes).meta_len)
+
+-- what the metadata's streams hold
+abbrev pub metadata_in : List ℕ → Metadata
+metadata_in bytes = contents (metadata_bytes bytes)
+
+-- the checks of a file, in order: headers, metadata root, streams, tables, rows
+abbrev pub image_checks : List ℕ → List Check
+image_checks bytes = metadata_checks bytes ++ (read_checks (metadata_bytes bytes) ++ rows_checks (metadata_in bytes))
+
+-- the metadata of a file, or its first fault
+abbrev pub image_of : List ℕ → Result Metadata ImageFault
+image_of bytes = outcome (image_checks bytes) (metadata_in bytes)

@@ -1,0 +1,32 @@
+//! A whole file.
+ghost use Rattle.std.specs.Prelude.{◌≡◌, ◌+◌, ◌≤◌, length, slice_range, IfOk};
+ghost use Rattle.world_build.specs.Image.{image_of};
+ghost use Rattle.world_build.specs.Refusals.{GivesOutcome};
+ghost use Rattle.world_build.specs.Rows.{ArePassed};
+
+use crate::refusal::Refusal;
+use crate::rows::check_rows;
+use cli_tables::Tables;
+use pe_image::{Places, metadata};
+use std::alloc::Global;
+
+/// The bytes of the metadata.
+fn metadata_part(bytes: &[u8], places: Places) -> &[u8]
+    requires { places.meta_start + places.meta_len ≤ length bytes.now }
+    ensures { result.now ≡ slice_range bytes.now places.meta_start (places.meta_start + places.meta_len) }
+{
+    let start = places.meta_start as usize;
+    let end = start + places.meta_len as usize;
+    &bytes[start..end]
+}
+
+/// The metadata of a file that passes all its checks, or the first fault. Takes the memory that the checks of rows take.
+pub fn read_image(alloc: Global, bytes: &[u8]) -> Result<Tables<'_>, Refusal>
+    ensures exact { GivesOutcome result (image_of bytes.now) }
+    ensures rows { IfOk result (λ m. ArePassed m) }
+{
+    let places = metadata(bytes)?;
+    let tables = Tables::read(metadata_part(bytes, places))?;
+    check_rows(alloc, &tables)?;
+    Ok(tables)
+}
