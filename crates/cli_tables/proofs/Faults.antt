@@ -1,7 +1,7 @@
 -- What is wrong with a text, from the texts behind it.
-use Rattle.std.proofs.Common.{◌≡◌, ℕ, zero, suc, ◌+◌, ◌-◌, ◌<◌, ◌≤◌, Bool, true, false, cond, List, [], length, take, drop, get_or, set, Option, None, Some, Ok, Err, refl, sym, ap, ◌∙◌, subst, arith, slice_range, inl, inr}
+use Rattle.std.proofs.Common.{◌≡◌, ℕ, ◌+◌, ◌-◌, ◌<◌, ◌≤◌, Bool, true, false, cond, List, [], length, take, drop, get_or, set, Option, None, Some, Ok, Err, refl, sym, ap, ◌∙◌, arith, slice_range, inl, inr}
 use Rattle.std.proofs.lemmas.Bool.{cases_lt, cases_eq, eq-eqb, ne_eqb}
-use Rattle.std.proofs.lemmas.List.{drop-take, drop-drop, length-drop, length-take, get_or-set_same, get_or-set_other}
+use Rattle.std.proofs.lemmas.List.{drop-take, drop-drop, get_or-set_same, get_or-set_other}
 use Rattle.std.proofs.Math.ListN.{get_or-eq_default}
 use Rattle.std.specs.Option.{option_map}
 use Rattle.std.specs.List.{position}
@@ -10,11 +10,11 @@ use Rattle.std.proofs.lemmas.Str.{IsUtf8-nil, is_utf8-from_IsUtf8}
 use Rattle.clr_base.specs.declared.image_fault.FaultKind.{FaultKind}
 use Rattle.clr_base.specs.declared.image_fault.FaultKind.TheVariants.{BadIndex, BadText}
 use Rattle.cli_tables.specs.Heaps.{text_at, text_of}
-use Rattle.cli_tables.specs.TextFaults.{end_at, bytes_fault, fault_up_to, fault_from, fault_of, looked_up, text_fault, AreFaultsFrom, AreTextFaults}
+use Rattle.cli_tables.specs.TextFaults.{end_at, bytes_fault, fault_up_to, fault_from, fault_of, text_fault, AreFaultsFrom, AreTextFaults}
 use Rattle.cli_tables.proofs.Characters.{as_the_rest, bad}
-use Rattle.cli_tables.proofs.NextZero.{is_zero, EndsAt, NoZero, ends, no_end, no_end_past, end_found}
+use Rattle.cli_tables.proofs.NextZero.{is_zero, ends, no_end_past, end_found}
 
-up_to : (heap : List ℕ) (at end : ℕ) → end_at heap at ≡ Some end → fault_from heap at ≡ bytes_fault (slice_range heap at end)
+pub up_to : (heap : List ℕ) (at end : ℕ) → end_at heap at ≡ Some end → fault_from heap at ≡ bytes_fault (slice_range heap at end)
 unfolding fault_from
 up_to heap at end e = ap (fault_up_to heap at) e
 
@@ -67,15 +67,15 @@ by_position heap at (Some n) =
     let long : at + n - at ≡ n = omega arith in
     ap (λ k. bytes_fault (take k (drop at heap))) long ∙ same_fault (take n (drop at heap)) (is_utf8 (take n (drop at heap))) refl
 
-as_text : (heap : List ℕ) (index : ℕ) → (index ≡ 0 → ⊥) → fault_from heap index ≡ text_fault heap index
+pub as_text : (heap : List ℕ) (index : ℕ) → (index ≡ 0 → ⊥) → fault_from heap index ≡ text_fault heap index
 unfolding fault_from end_at text_at
 as_text heap index some = rw (ne_eqb index 0 some) (by_position heap index (position is_zero (drop index heap)))
 
-at_zero : (heap : List ℕ) → text_fault heap 0 ≡ None
+pub at_zero : (heap : List ℕ) → text_fault heap 0 ≡ None
 unfolding text_at
 at_zero heap = ap (λ b. fault_of {X = List ℕ} (cond b (Ok []) (Err BadText))) (is_utf8-from_IsUtf8 [] IsUtf8-nil)
 
-past : (heap : List ℕ) (index : ℕ) → length heap ≤ index → (index ≡ 0 → ⊥) → Some BadIndex ≡ text_fault heap index
+pub past : (heap : List ℕ) (index : ℕ) → length heap ≤ index → (index ≡ 0 → ⊥) → Some BadIndex ≡ text_fault heap index
 past heap index outside some = no_zero heap index (no_end_past heap index outside) ∙ as_text heap index some
 
 -- all places from the first on are the whole answer

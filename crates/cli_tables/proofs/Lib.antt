@@ -1,3 +1,4 @@
+pub mod AsciiHeap
 pub mod CellLemmas
 pub mod Characters
 pub mod Columns

@@ -1,5 +1,5 @@
 -- Where the next zero stands, from one place to the next.
-use Rattle.std.proofs.Common.{◌≡◌, ℕ, zero, suc, ◌+◌, ◌-◌, ◌<◌, ◌≤◌, ◌⊎◌, inl, inr, Bool, true, false, cond, List, length, drop, get_or, Option, None, Some, refl, sym, ap, ◌∙◌, subst, arith, nat_lt}
+use Rattle.std.proofs.Common.{◌≡◌, ℕ, ◌+◌, ◌-◌, ◌<◌, ◌≤◌, inl, inr, Bool, true, false, cond, List, length, drop, get_or, Option, None, Some, refl, sym, ap, ◌∙◌, subst, arith, nat_lt}
 use Rattle.std.proofs.lemmas.Bool.{cases_lt, cases_eq, lt-ltb, le-ltb, ltb-false}
 use Rattle.std.proofs.lemmas.List.{length-drop, get_or-drop, drop_all}
 use Rattle.std.proofs.lemmas.List.Quantifiers.{position-Some}
@@ -79,7 +79,7 @@ none_mapped : (at : ℕ) (r : Option ℕ) → option_map (λ n. at + n) r ≡ No
 none_mapped at None e = refl
 none_mapped at (Some n) e = cc
 
-none_found : (heap : List ℕ) (at : ℕ) → end_at heap at ≡ None → NoZero heap at (length heap)
+pub none_found : (heap : List ℕ) (at : ℕ) → end_at heap at ≡ None → NoZero heap at (length heap)
 unfolding end_at
 none_found heap at e k low high =
     let behind = drop at heap in

@@ -1,11 +1,13 @@
 -- What is wrong with the texts of `#Strings` (ECMA-335 II.24.2.3), place by place.
-use Rattle.std.specs.Prelude.{◌≡◌, ℕ, ◌+◌, ◌<◌, ◌≤◌, List, length, drop, nat_lt, ◌==◌, Option, None, Some, Result, Ok, Err, if◌then◌else◌, get_or, slice_range}
+use Rattle.std.specs.Prelude.{◌≡◌, ℕ, ◌+◌, ◌-◌, ◌<◌, ◌≤◌, List, length, drop, ◌==◌, ◌≢◌, replicate, slice_index, Option, None, Some, Result, Ok, Err, if◌then◌else◌, get_or, slice_range}
 use Rattle.std.specs.Option.{option_map}
 use Rattle.std.specs.List.{position}
 use Rattle.std.specs.Str.{is_utf8}
 use Rattle.clr_base.specs.declared.image_fault.FaultKind.{FaultKind}
 use Rattle.clr_base.specs.declared.image_fault.FaultKind.TheVariants.{BadIndex, BadText}
 use Rattle.cli_tables.specs.Heaps.{string_at}
+use Rattle.cli_tables.specs.declared.text_faults.Found.{Found}
+use Rattle.cli_tables.specs.declared.text_faults.Found.TheVariants.{Ascii, Each}
 
 -- what is wrong with a text, or nothing
 abbrev pub fault_of : {X : Type 0} → Result X FaultKind → Option FaultKind
@@ -23,6 +25,15 @@ looked_up faults index = if index == 0 then None else get_or faults index (Some 
 -- at each index, that is what is wrong with its text
 abbrev pub AreTextFaults : List ℕ → List (Option FaultKind) → Type 0
 AreTextFaults heap faults = (index : ℕ) → looked_up faults index ≡ text_fault heap index
+
+-- the faults that are kept: in a heap that is all ASCII, none at each place up to the last zero, n places in all
+abbrev pub faults_of : Found → List (Option FaultKind)
+faults_of (Ascii n) = replicate n None
+faults_of (Each faults) = faults.items
+
+-- the last of the first n bytes is a zero, if there are any, and none is behind them
+abbrev pub ReachLastZero : List ℕ → ℕ → Type 0
+ReachLastZero heap n = (n ≤ length heap) × (0 < n → slice_index heap (n - 1) ≡ 0) × ((i : ℕ) → n ≤ i → i < length heap → slice_index heap i ≢ 0)
 
 -- where the next zero stands, from a place on
 unfoldable pub end_at : List ℕ → ℕ → Option ℕ

@@ -79,6 +79,42 @@ fn what_is_wrong_with_each_text(rt: HostRuntime) -> Result<(), Fail> {
 }
 
 #[test]
+fn what_is_wrong_where_all_is_ascii(rt: HostRuntime) -> Result<(), Fail> {
+    let outside = Some(FaultKind::BadIndex);
+    // The last zero is the last byte, stands before other bytes, is the first byte, or isn't there.
+    let table = [
+        (
+            b"\0ab\0c\0".as_slice(),
+            [None, None, None, None, None, None, outside],
+        ),
+        (
+            b"\0ab\0cd".as_slice(),
+            [None, None, None, None, outside, outside, outside],
+        ),
+        (
+            b"\0abcde".as_slice(),
+            [None, outside, outside, outside, outside, outside, outside],
+        ),
+        (
+            b"abcdef".as_slice(),
+            [None, outside, outside, outside, outside, outside, outside],
+        ),
+        (
+            b"".as_slice(),
+            [None, outside, outside, outside, outside, outside, outside],
+        ),
+    ];
+    for (heap, wanted) in table {
+        let faults = TextFaults::read(rt.alloc(), heap)?;
+        for (index, fault) in wanted.iter().enumerate() {
+            assert_eq!(rt; faults.fault(index as u32), *fault);
+        }
+        assert_eq!(rt; faults.fault(u32::MAX), outside);
+    }
+    Ok(())
+}
+
+#[test]
 fn each_refusal_of_metadata(rt: HostRuntime) -> Result<(), Fail> {
     // The byte changed, the length kept, and the fault with its place.
     let table = [

@@ -12,20 +12,29 @@ use std::str;
 /// The most bytes of a character.
 const LONGEST_CHAR: usize = 4;
 
+/// What is kept of the faults. In a heap that is all ASCII an index is wrong only where no zero ends its text, so `Ascii` has
+/// the length up to the last zero, that one too. For another heap `Each` has the fault at each byte, if there is one.
+#[derive(Debug, Drop)]
+enum Found {
+    Ascii(usize),
+    Each(Vec<Option<FaultKind>>),
+}
+
 /// What is wrong with the text at each index of `#Strings`, if anything is.
 #[derive(Debug, Drop)]
 pub struct TextFaults {
-    faults: Vec<Option<FaultKind>>,
+    found: Found,
 }
 
 impl Model for TextFaults {
     ghost use Rattle.std.specs.Prelude.{List};
     ghost use Rattle.std.specs.declared.option.Option.{Option};
     ghost use Rattle.clr_base.specs.declared.image_fault.FaultKind.{FaultKind};
+    ghost use Rattle.cli_tables.specs.TextFaults.{faults_of};
 
     ghost Value = { List (Option FaultKind) };
 
-    ghost view = { λ f. f.faults.items };
+    ghost view = { λ f. faults_of f.found };
 }
 
 /// The length of a text, of a character or a few, that the bytes begin with. None where they begin with no character.
@@ -97,19 +106,41 @@ fn fault_at(
     fault_before(heap, at, end, faults)
 }
 
+/// How many bytes reach up to the last zero, that one too: 0 where there is none.
+fn len_to_last_zero(heap: &[u8]) -> usize
+    ensures { spec.ReachLastZero heap.now result }
+{
+    match heap.iter().rposition(|byte| *byte == 0) {
+        Some(last) => last + 1,
+        None => 0,
+    }
+}
+
+/// What is wrong at each byte of a heap: one pass over it, from its end.
+fn fault_at_each(alloc: Global, heap: &[u8]) -> Result<Vec<Option<FaultKind>>, AllocError>
+    ensures { IfOk result (λ faults. spec.AreTextFaults heap.now faults.items) }
+{
+    let mut faults = vec![in alloc; None; heap.len()]?;
+    let mut zero = None;
+    for behind in 0..heap.len() {
+        let at = heap.len() - 1 - behind;
+        zero = next_zero(heap, at, zero);
+        faults[at] = fault_at(heap, at, zero, &faults);
+    }
+    Ok(faults)
+}
+
 impl TextFaults {
-    /// Goes over the heap once, from its end. Takes memory for each of its bytes.
+    /// Goes over the heap twice at most. Takes no memory where the heap is all ASCII, else memory for each of its bytes.
     pub fn read(alloc: Global, heap: &[u8]) -> Result<TextFaults, AllocError>
         ensures { IfOk result (λ faults. spec.AreTextFaults heap.now faults) }
     {
-        let mut faults = vec![in alloc; None; heap.len()]?;
-        let mut zero = None;
-        for behind in 0..heap.len() {
-            let at = heap.len() - 1 - behind;
-            zero = next_zero(heap, at, zero);
-            faults[at] = fault_at(heap, at, zero, &faults);
-        }
-        Ok(TextFaults { faults })
+        let found = if heap.is_ascii() {
+            Found::Ascii(len_to_last_zero(heap))
+        } else {
+            Found::Each(fault_at_each(alloc, heap)?)
+        };
+        Ok(TextFaults { found })
     }
 
     /// What is wrong with the text at an index, if anything is: `BadIndex` where the index or the zero that ends the text is
@@ -120,9 +151,14 @@ impl TextFaults {
         if index == 0 {
             return None;
         }
-        match self.faults.get(index as usize) {
-            Some(fault) => *fault,
-            None => Some(FaultKind::BadIndex),
+        let index = index as usize;
+        match &self.found {
+            Found::Ascii(len) if index < *len => None,
+            Found::Ascii(_) => Some(FaultKind::BadIndex),
+            Found::Each(faults) => match faults.get(index) {
+                Some(fault) => *fault,
+                None => Some(FaultKind::BadIndex),
+            },
         }
     }
 }

@@ -1,5 +1,4 @@
-use Rattle.std.proofs.Common.{◌≡◌, ◌+◌, ◌-◌, ◌<◌, ◌≤◌, ◌⊎◌, inl, inr, None, sym, ◌∙◌, arith}
-use Rattle.std.proofs.lemmas.Bool.{cases_lt}
+use Rattle.std.proofs.Common.{sym, ◌∙◌}
 use Rattle.cli_tables.proofs.Faults.{no_zero, empty_here}
 use Rattle.cli_tables.proofs.NextZero.{end_found, strictly}
 use Rattle.cli_tables.proofs.text_faults.fault_at.Goals as goal

@@ -1,5 +1,5 @@
-use Rattle.std.proofs.Common.{◌≡◌, ◌+◌, ◌-◌, ◌<◌, ◌≤◌, None, sym, ◌∙◌, length, drop, arith}
-use Rattle.std.proofs.lemmas.List.{length-take, length-drop}
+use Rattle.std.proofs.Common.{◌+◌, ◌-◌, ◌≤◌, None, ◌∙◌, drop, arith}
+use Rattle.std.proofs.lemmas.List.{length-take}
 use Rattle.cli_tables.proofs.Faults.{as_behind, bad_here}
 use Rattle.cli_tables.proofs.text_faults.fault_before.Goals as goal
 

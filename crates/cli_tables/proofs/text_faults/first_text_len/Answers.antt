@@ -1,5 +1,4 @@
-use Rattle.std.proofs.Common.{◌≡◌, ◌<◌, length, get_or, sym, ◌∙◌, subst, arith}
-use Rattle.std.specs.Str.{IsUtf8}
+use Rattle.std.proofs.Common.{sym, ◌∙◌, arith}
 use Rattle.cli_tables.proofs.Characters.{no_front, one_byte}
 use Rattle.cli_tables.proofs.text_faults.first_text_len.Goals as goal
 

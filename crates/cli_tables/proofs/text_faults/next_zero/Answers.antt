@@ -1,4 +1,4 @@
-use Rattle.std.proofs.Common.{◌≡◌, sym, refl, ap, ◌∙◌, true}
+use Rattle.std.proofs.Common.{sym}
 use Rattle.std.proofs.lemmas.Bool.{eq-eqb, ne_eqb}
 use Rattle.cli_tables.proofs.NextZero.{here_zero, here_other}
 use Rattle.cli_tables.proofs.text_faults.next_zero.Goals as goal
