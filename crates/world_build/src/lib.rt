@@ -1,27 +1,37 @@
 //! The world builder: the core library and files become definitions, members, signatures and roots.
 #![tactic(auto)]
 
+mod cells;
 mod core_parts;
 mod core_table;
 mod core_type;
+mod file_names;
 mod image;
+mod member_table;
 mod names;
 mod nesting;
 mod refusal;
+mod resolution;
 mod row_rules;
 mod rows;
+mod type_rows;
 
+pub use cells::RowOf;
 pub use core_parts::{CoreParts, core_library};
 pub use core_table::{
     CORE_DEFS, CORE_METHODS, CORE_NAMES, CoreDef, CoreMethod, DEF_COUNT, DefKind, FormalKind,
     MemberName, MethodKind, NAME_COUNT, Params, SigType, core_name, def_row, method_rows,
 };
 pub use core_type::CoreType;
+pub use file_names::FileNames;
 pub use image::read_image;
+pub use member_table::{MemberTable, Run};
 pub use names::Names;
 pub use nesting::enclosing_rows;
 pub use refusal::Refusal;
+pub use resolution::DefPlace;
 pub use rows::TYPE_DEF;
+pub use type_rows::{Target, TypeRows};
 
 #[cfg(test)]
 mod row_tests;

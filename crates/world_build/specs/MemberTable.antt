@@ -1,0 +1,106 @@
+-- The members of a world by their definitions, and those that a name and a signature find.
+use Rattle.std.specs.Prelude.{ℕ, ◌+◌, ◌-◌, ◌==◌, ◌&&◌, List, [], ◌∷◌, ◌++◌, map, length, Bool, true, false, Option, None, Some, slice_get, get_or}
+use Rattle.std.specs.Option.{option_map, option_map_or, option_and_then}
+use Rattle.std.specs.List.{find, range_with_len, flat_map, enumerate_from}
+use Rattle.std.proofs.Math.ListN.{replicate}
+use Rattle.clr_base.specs.declared.ids.FieldId.{FieldId}
+use Rattle.clr_base.specs.declared.ids.MethId.{MethId}
+use Rattle.clr_base.specs.declared.ids.NameId.{NameId}
+use Rattle.cli_sigs.specs.declared.signature.SigMethod.{SigMethod}
+use Rattle.cli_tables.specs.Metadata.{Metadata}
+use Rattle.type_tree.specs.declared.definition.Def.{Def}
+use Rattle.type_tree.specs.declared.definition.Field.{Field}
+use Rattle.type_tree.specs.declared.definition.Method.{Method}
+use Rattle.type_tree.specs.declared.tree.Ty.{Ty}
+use Rattle.type_tree.specs.contracts.tree.Ty as row-of-ty
+use Rattle.type_tree.specs.Same.{same}
+use Rattle.world_build.specs.declared.member_table.MemberTable.{MemberTable}
+use Rattle.world_build.specs.declared.member_table.Run.{Run}
+use Rattle.world_build.specs.declared.type_rows.TypeRows.{TypeRows}
+use Rattle.world_build.specs.CoreLibrary as core
+use Rattle.world_build.specs.Cells.{rows_of, at, run_len}
+use Rattle.world_build.specs.Members.{file_methods, file_generics, file_fields}
+use Rattle.world_build.specs.Resolution.{rows_before}
+use Rattle.world_build.specs.Trees.{tree, trees}
+use Rattle.world_build.specs.WorldNames.{file_names}
+
+-- ---- the whole table; the core has 118 methods and no fields
+
+abbrev pub core_run : Def → Run
+core_run d = record { first_field = d.first_field; fields = d.fields; first_method = d.first_method; methods = d.methods }
+
+-- the run of the definition in a TypeDef row (II.22.37)
+unfoldable pub run_of : List Metadata → ℕ → Metadata → ℕ → Run
+run_of files k m row = record {
+  first_field = rows_before files k 0x04 + (at m 0x02 row 4 - 1);
+  fields = run_len m 4 0x04 row;
+  first_method = 118 + rows_before files k 0x06 + (at m 0x02 row 5 - 1);
+  methods = run_len m 5 0x06 row;
+}
+
+-- what each file gives, one after the other; files are counted from 0 here
+abbrev pub of_each : {X : Type 0} → (ℕ → Metadata → List X) → List Metadata → List X
+of_each give files = flat_map (λ ((k, m) : ℕ × Metadata). give k m) (enumerate_from 0 files)
+
+unfoldable pub member_table : List Metadata → MemberTable
+member_table files = record {
+  runs = map core_run core.defs ++ of_each (λ k m. map (run_of files k m) (rows_of m 0x02)) files;
+  methods = core.methods ++ of_each (λ k m. file_methods (file_names files k m) m) files;
+  generics = replicate (length core.methods) 0 ++ of_each (λ k m. file_generics m) files;
+  fields = of_each (λ k m. file_fields (file_names files k m) m) files;
+}
+
+-- ---- members by name and signature
+
+-- what is compared of a method: its trees are open, in the generic parameters of its definition and its own
+pub record Open : Type 0 where
+  pub has_this : Bool
+  pub vararg : Bool
+  pub generic : ℕ
+  pub types : List Ty
+
+unfoldable pub open_of : TypeRows → SigMethod → Open
+open_of s m = record { has_this = m.has_this; vararg = m.vararg; generic = m.generic; types = tree s m.ret ∷ trees s m.params }
+
+abbrev pub open_method : Method → ℕ → Open
+open_method m generic = record { has_this = m.has_this; vararg = m.vararg; generic = generic; types = m.ret ∷ m.params }
+
+abbrev pub same_tree : Ty → Ty → Bool
+same_tree = same row-of-ty.the_row.coded
+
+abbrev pub same_trees : List Ty → List Ty → Bool
+same_trees [] [] = true
+same_trees (t ∷ ts) (u ∷ us) = same_tree t u && same_trees ts us
+same_trees _ _ = false
+
+abbrev pub same_bool : Bool → Bool → Bool
+same_bool true b = b
+same_bool false true = false
+same_bool false false = true
+
+abbrev pub same_open : Open → Open → Bool
+same_open a b = same_bool a.has_this b.has_this && same_bool a.vararg b.vararg && a.generic == b.generic && same_trees a.types b.types
+
+abbrev pub same_name : NameId → NameId → Bool
+same_name a b = a.0 == b.0
+
+-- a method has a name and a signature
+abbrev pub is_method : MemberTable → NameId → Open → ℕ → Bool
+is_method w name wanted i =
+    option_map_or (λ m. same_name m.name name && same_open (open_method m (get_or w.generics i 0)) wanted) (slice_get w.methods i) false
+
+-- the first own method of a definition with them
+unfoldable pub own_method : MemberTable → ℕ → NameId → Open → Option MethId
+own_method w d name wanted =
+    option_and_then
+    (λ r. option_map (λ i. record { 0 = i }) (find (is_method w name wanted) (range_with_len r.first_method r.methods)))
+    (slice_get w.runs d)
+
+-- a field has a name and a type
+abbrev pub is_field : MemberTable → NameId → Ty → ℕ → Bool
+is_field w name t i = option_map_or (λ f. same_name f.name name && same_tree f.ty t) (slice_get w.fields i) false
+
+-- the first own field of a definition with them
+unfoldable pub own_field : MemberTable → ℕ → NameId → Ty → Option FieldId
+own_field w d name t =
+    option_and_then (λ r. option_map (λ i. record { 0 = i }) (find (is_field w name t) (range_with_len r.first_field r.fields))) (slice_get w.runs d)

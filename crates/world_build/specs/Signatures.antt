@@ -1,0 +1,81 @@
+-- The signatures of a world, in their order, and where those of a file stand.
+use Rattle.std.specs.Prelude.{ℕ, ◌+◌, ◌*◌, List, [], ◌∷◌, ◌++◌, map, length, sum_by, take, Option, None, Some, if◌then◌else◌}
+use Rattle.std.specs.Option.{option_map}
+use Rattle.std.specs.List.{flat_map, enumerate_from}
+use Rattle.clr_base.specs.declared.ids.SigId.{SigId}
+use Rattle.cli_sigs.specs.declared.signature.SigTy.{SigTy}
+use Rattle.cli_sigs.specs.Signatures.{placed, locals_at}
+use Rattle.cli_tables.specs.Metadata.{Metadata}
+use Rattle.type_tree.specs.declared.parts.Locals.{Locals}
+use Rattle.type_tree.specs.declared.tree.Key.{Key}
+use Rattle.type_tree.specs.declared.tree.Key.TheVariants.{Tree, Meth}
+use Rattle.type_tree.specs.declared.tree.Ty.{Ty}
+use Rattle.type_tree.specs.declared.tree.Ty.TheVariants as ty
+use Rattle.world_build.specs.declared.core_type.CoreType.TheVariants.{String, TypeObject}
+use Rattle.world_build.specs.CoreLibrary.{plain}
+use Rattle.world_build.specs.Cells.{rows, rows_of, blob, owner_of}
+use Rattle.world_build.specs.Trees.{tree, row_counts, value_or, type_at_row}
+use Rattle.world_build.specs.References.{Reader, begins_with, owner_type, ref_owner, spec_key}
+
+-- System.String, System.Type, System.String[]
+unfoldable pub well_known : List Key
+well_known = Tree (plain String) ∷ Tree (plain TypeObject) ∷ Tree (ty.Array (plain String)) ∷ []
+
+-- ---- the signatures of a file
+
+-- the type of each row of a table of types
+unfoldable pub types_in : Reader → ℕ → List Ty
+types_in w table = map (λ row. type_at_row w.types w.tables (Some (record { table = table; row = row }))) (rows_of w.tables table)
+
+unfoldable pub row_types : Reader → List Ty
+row_types w = types_in w 0x02 ++ types_in w 0x01 ++ types_in w 0x1B
+
+-- the owner's type of each row of a table of members; a MethodSpec row has its method's key
+unfoldable pub member_keys : Reader → List Key
+member_keys w =
+    map (λ row. Tree (owner_type w.types (owner_of w.tables 4 0x04 row))) (rows_of w.tables 0x04)
+    ++ map (λ row. Tree (owner_type w.types (owner_of w.tables 5 0x06 row))) (rows_of w.tables 0x06)
+    ++ map (λ row. Tree (ref_owner w row)) (rows_of w.tables 0x0A)
+    ++ map (spec_key w) (rows_of w.tables 0x2B)
+
+-- the types of the local variables that a StandAloneSig row lists (II.23.2.6), none where its blob doesn't begin with 07
+unfoldable pub locals_in : Metadata → ℕ → Option (List SigTy)
+locals_in m row =
+    if begins_with 0x07 (blob m 0x11 row 0) then Some (value_or [] (placed (blob m 0x11 row 0) (locals_at (row_counts m) (blob m 0x11 row 0))))
+    else None
+
+abbrev pub listed : Option (List SigTy) → List SigTy
+listed None = []
+listed (Some ts) = ts
+
+unfoldable pub local_keys : Reader → List Key
+local_keys w = flat_map (λ row. map (λ t. Tree (tree w.types t)) (listed (locals_in w.tables row))) (rows_of w.tables 0x11)
+
+-- the types of the rows, the arrays of these, the members, the local variables
+unfoldable pub file_keys : Reader → List Key
+file_keys w = map Tree (row_types w) ++ map (λ t. Tree (ty.Array t)) (row_types w) ++ member_keys w ++ local_keys w
+
+-- ---- where they stand
+
+-- how many signatures of rows there are before the local variables
+unfoldable pub row_sigs : Metadata → ℕ
+row_sigs m = 2 * (rows m 0x02 + rows m 0x01 + rows m 0x1B) + (rows m 0x04 + rows m 0x06 + rows m 0x0A + rows m 0x2B)
+
+-- how many local variables the first n rows of StandAloneSig list
+unfoldable pub locals_before : Metadata → ℕ → ℕ
+locals_before m n = sum_by (λ row. length (listed (locals_in m row))) (take n (rows_of m 0x11))
+
+unfoldable pub sigs_in : Metadata → ℕ
+sigs_in m = row_sigs m + locals_before m (rows m 0x11)
+
+-- the number of a file's first signature
+unfoldable pub first_sig : List Metadata → ℕ → ℕ
+first_sig files k = 3 + sum_by sigs_in (take k files)
+
+-- the local variables of a StandAloneSig row, given with how many rows stand before it, where the file's signatures begin at a number
+abbrev pub run_at : Metadata → ℕ → ℕ × ℕ → Option Locals
+run_at m first (n, row) =
+    option_map (λ ts. record { first = record { 0 = first + row_sigs m + locals_before m n }; count = length ts }) (locals_in m row)
+
+unfoldable pub locals_of : Metadata → ℕ → List (Option Locals)
+locals_of m first = map (run_at m first) (enumerate_from 0 (rows_of m 0x11))
