@@ -1,5 +1,5 @@
 //! The heaps of texts and blobs (ECMA-335 II.24.2.3, II.24.2.4).
-ghost use Rattle.std.specs.Prelude.{◌≡◌, ◌+◌, ◌<◌, ◌≤◌, ◌^◌, length, Ok, Err, Some, None, ◌==◌, IfSome, MatchResult};
+ghost use Rattle.std.specs.Prelude.{◌≡◌, ◌+◌, ◌<◌, ◌≤◌, ◌^◌, length, Ok, Err, Some, None, ◌==◌, IfOk, IfSome, MatchResult};
 ghost use Rattle.std.specs.List.{position};
 ghost use Rattle.std.specs.Option.{option_copied};
 ghost use Rattle.clr_base.specs.declared.image_fault.FaultKind.TheVariants.{BadIndex};
@@ -58,6 +58,7 @@ fn blob_len(heap: &[u8], index: usize) -> Option<BlobRange>
     requires { index < 2 ^ 32 }
     ensures exact { result ≡ blob_range heap.now index }
     ensures near { IfSome result (λ range. range.start + range.len < 2 ^ 34) }
+    ensures short { IfSome result (λ range. range.len < 2 ^ 29) }
 {
     let rest = heap.len().saturating_sub(index);
     if rest == 0 {
@@ -96,7 +97,8 @@ fn blob_len(heap: &[u8], index: usize) -> Option<BlobRange>
 /// The blob at an index of `#Blob` or `#US`.
 #[tactic(auto, unfolding(crate::specs::Heaps::blob_at))]
 pub fn blob_in(heap: &[u8], index: u32) -> Result<&[u8], FaultKind>
-    ensures { MatchResult result (λ blob. blob_at heap.now index ≡ Some blob.now) (λ kind. (kind ≡ BadIndex) × (blob_at heap.now index ≡ None)) }
+    ensures short { IfOk result (λ blob. length blob.now < 2 ^ 29) }
+    ensures exact { MatchResult result (λ blob. blob_at heap.now index ≡ Some blob.now) (λ kind. (kind ≡ BadIndex) × (blob_at heap.now index ≡ None)) }
 {
     if index == 0 {
         return Ok(&[]);

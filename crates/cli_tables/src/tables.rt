@@ -1,5 +1,5 @@
 //! Metadata as tables and heaps.
-ghost use Rattle.std.specs.Prelude.{◌≡◌, ◌≤◌, ℕ, IfOk, Ok, Err, Some, None, MatchResult};
+ghost use Rattle.std.specs.Prelude.{◌≡◌, ◌<◌, ◌≤◌, ◌^◌, ℕ, length, IfOk, Ok, Err, Some, None, MatchResult};
 ghost use Rattle.clr_base.specs.Checks.{outcome};
 ghost use Rattle.clr_base.specs.declared.image_fault.FaultKind.TheVariants.{BadIndex};
 ghost use Rattle.cli_tables.specs.Heaps.{string_at, blob_at};
@@ -155,7 +155,8 @@ impl<'a> Tables<'a> {
     /// The blob at an index of `#Blob`, empty at 0. `BadIndex` where its length or its content leaves the heap. Takes no
     /// memory and constant time.
     pub fn blob(&self, index: u32) -> Result<&'a [u8], FaultKind>
-        ensures { MatchResult result (λ blob. blob_at self.now.blobs index ≡ Some blob.now) (λ kind. (kind ≡ BadIndex) × (blob_at self.now.blobs index ≡ None)) }
+        ensures short { IfOk result (λ blob. length blob.now < 2 ^ 29) }
+        ensures exact { MatchResult result (λ blob. blob_at self.now.blobs index ≡ Some blob.now) (λ kind. (kind ≡ BadIndex) × (blob_at self.now.blobs index ≡ None)) }
     {
         blob_in(self.blobs, index)
     }
@@ -163,7 +164,8 @@ impl<'a> Tables<'a> {
     /// The blob at an index of `#US`, with its last byte. `BadIndex` where its length or its content leaves the heap. Takes
     /// no memory and constant time.
     pub fn user_string(&self, index: u32) -> Result<&'a [u8], FaultKind>
-        ensures { MatchResult result (λ blob. blob_at self.now.users index ≡ Some blob.now) (λ kind. (kind ≡ BadIndex) × (blob_at self.now.users index ≡ None)) }
+        ensures short { IfOk result (λ blob. length blob.now < 2 ^ 29) }
+        ensures exact { MatchResult result (λ blob. blob_at self.now.users index ≡ Some blob.now) (λ kind. (kind ≡ BadIndex) × (blob_at self.now.users index ≡ None)) }
     {
         blob_in(self.users, index)
     }
