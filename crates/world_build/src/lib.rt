@@ -1,6 +1,7 @@
 //! The world builder: the core library and files become definitions, members, signatures and roots.
 #![tactic(auto)]
 
+mod bodies;
 mod cells;
 mod core_parts;
 mod core_table;
@@ -16,6 +17,7 @@ mod row_rules;
 mod rows;
 mod type_rows;
 
+pub use bodies::file_bodies;
 pub use cells::RowOf;
 pub use core_parts::{CoreParts, core_library};
 pub use core_table::{
