@@ -3,7 +3,11 @@ pub mod CoreNames
 pub mod Enclosing
 pub mod Giving
 pub mod Inside
+pub mod ListFacts
+pub mod MembersFit
 pub mod NameLemmas
 pub mod Noted
 pub mod Passing
 pub mod Ranges
+pub mod SigFolds
+pub mod TreesFit
