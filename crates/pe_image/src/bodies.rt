@@ -34,8 +34,8 @@ fn len_of_body(bytes: &[u8], at: usize) -> Option<u64>
 pub struct BodyRange {
     /// The first byte, counted from the file's own.
     pub start: usize,
-    /// How many bytes there are.
-    pub len: u64,
+    /// How many bytes there are. They lie in the raw data of one section, whose length has 32 bits.
+    pub len: u32,
 }
 
 /// Where the body at an RVA stands, by the section table.
@@ -48,7 +48,10 @@ fn find_range(bytes: &[u8], table: SectionTable, rva: u32) -> Option<BodyRange>
     let first = table.place_of(bytes, rva, 1)?;
     let len = len_of_body(bytes, first)?;
     let start = table.place_of(bytes, rva, len)?;
-    Some(BodyRange { start, len })
+    Some(BodyRange {
+        start,
+        len: len as u32,
+    })
 }
 
 /// Where the header and the code of the method body at an RVA stand. None where either leaves the file, and where the first

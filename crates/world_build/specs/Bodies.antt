@@ -1,5 +1,5 @@
 -- Where the bodies of a file's methods stand (ECMA-335 II.22.26, II.25.4).
-use Rattle.std.specs.Prelude.{ℕ, List, map, ◌==◌, nat_lt, Option, None, Some, Result, Ok, Err, if◌then◌else◌}
+use Rattle.std.specs.Prelude.{ℕ, List, map, ◌==◌, Option, None, Some, Result, Ok, Err, if◌then◌else◌}
 use Rattle.clr_base.specs.declared.image_fault.ImageFault.{ImageFault}
 use Rattle.cli_tables.specs.Metadata.{Metadata}
 use Rattle.pe_image.specs.declared.bodies.BodyRange.{BodyRange}
@@ -9,15 +9,12 @@ use Rattle.pe_image.specs.Metadata.{metadata_of}
 use Rattle.type_tree.specs.declared.parts.BodyPlace.{BodyPlace}
 use Rattle.world_build.specs.Cells.{rows_of, at}
 
--- where a body stands in a file with a number. One that is refused has no bytes, and neither has one of 2 ^ 32 bytes or more.
-abbrev pub no_bytes : ℕ → BodyPlace
-no_bytes file = record { file = file; start = 0; len = 0 }
-
+-- where a body stands in a file with a number; one that is refused has no bytes
 abbrev pub place_in : ℕ → Option BodyRange → BodyPlace
-place_in file None = no_bytes file
-place_in file (Some r) = if nat_lt r.len 4294967296 then record { file = file; start = r.start; len = r.len } else no_bytes file
+place_in file None = record { file = file; start = 0; len = 0 }
+place_in file (Some r) = record { file = file; start = r.start; len = r.len }
 
--- the body at an RVA; there is none in a file whose headers fail
+-- the body at an RVA; there is none in a file whose headers fail, which is not read
 abbrev pub range_if : Result Places ImageFault → List ℕ → ℕ → Option BodyRange
 range_if (Ok places) bytes rva = body_range bytes rva
 range_if (Err fault) bytes rva = None

@@ -8,7 +8,7 @@ use Rattle.type_tree.specs.declared.parts.WorldFile.{WorldFile}
 use Rattle.type_tree.specs.declared.parts.WorldParts.{WorldParts}
 use Rattle.world_build.specs.declared.core_type.CoreType.TheVariants as known
 use Rattle.world_build.specs.CoreLibrary as core
-use Rattle.world_build.specs.CoreTable.{def_id}
+use Rattle.world_build.specs.CoreTable.{core_methods, def_id}
 use Rattle.world_build.specs.Bodies.{file_bodies}
 use Rattle.world_build.specs.Cells.{rows, rows_of, loose}
 use Rattle.world_build.specs.Definitions.{def_of}
@@ -27,7 +27,7 @@ reader files k m = record {
   members = member_table files;
   types = type_rows files k m;
   tables = m;
-  first_method = 118 + rows_before files k 0x06;
+  first_method = core_methods + rows_before files k 0x06;
 }
 
 -- ---- definitions
@@ -47,7 +47,7 @@ world_file files bytes k m = record {
   first_field = record { 0 = rows_before files k 0x04 };
   fields = rows m 0x04;
   loose_fields = loose m 4 0x04;
-  first_method = record { 0 = 118 + rows_before files k 0x06 };
+  first_method = record { 0 = core_methods + rows_before files k 0x06 };
   methods = rows m 0x06;
   loose_methods = loose m 5 0x06;
   member_refs = map (member_ref (reader files k m)) (rows_of m 0x0A);

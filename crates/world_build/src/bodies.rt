@@ -15,18 +15,17 @@ use type_tree::BodyPlace;
 /// The column RVA of MethodDef (II.22.26).
 const RVA: u8 = 0;
 
-/// Where a body stands in the file with a number, from 1. One that is refused has no bytes, and neither has one of 2^32 bytes
-/// or more.
+/// Where a body stands in the file with a number, from 1. One that is refused has no bytes.
 fn place_in(file: u32, range: Option<BodyRange>) -> BodyPlace
     ensures { result ≡ spec.place_in file range }
 {
     match range {
-        Some(range) if range.len < 0x1_0000_0000 => BodyPlace {
+        Some(range) => BodyPlace {
             file,
             start: range.start as u64,
-            len: range.len as u32,
+            len: range.len,
         },
-        Some(_) | None => BodyPlace {
+        None => BodyPlace {
             file,
             start: 0,
             len: 0,
@@ -34,7 +33,7 @@ fn place_in(file: u32, range: Option<BodyRange>) -> BodyPlace
     }
 }
 
-/// The body at an RVA; there is none in a file whose headers fail.
+/// The body at an RVA; there is none in a file whose headers fail, which is not read.
 fn range_if(bytes: &[u8], headers: &Result<Places, ImageFault>, rva: u32) -> Option<BodyRange>
     requires { headers.now ≡ metadata_of bytes.now }
     ensures { result ≡ spec.range_if (metadata_of bytes.now) bytes.now rva }
