@@ -31,7 +31,7 @@ use Rattle.world_build.proofs.SigFolds.{Cases, Known, types, by_variants, fold-B
 -- ---- each variant fits where its parts do
 
 module _ (c : Counts) where
-  inst_fits : (d : DefId) (ts : List Ty) → d.0 < c.defs → all_fit c ts ≡ true → fits c (ty.Inst d ts) ≡ true
+  pub inst_fits : (d : DefId) (ts : List Ty) → d.0 < c.defs → all_fit c ts ≡ true → fits c (ty.Inst d ts) ≡ true
   inst_fits d ts small all = tree-fold.fold-Inst Bool (fits_step c) d ts ∙ ap (λ (b : Bool). b && all_fit c ts) (lt-ltb d.0 c.defs small) ∙ all
 
   pub array_fits : (t : Ty) → fits c t ≡ true → fits c (ty.Array t) ≡ true
