@@ -7,3 +7,4 @@ pub mod NameLemmas
 pub mod Noted
 pub mod Passing
 pub mod Ranges
+pub mod RowLists

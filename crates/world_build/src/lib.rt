@@ -12,6 +12,7 @@ mod names;
 mod nesting;
 mod refusal;
 mod resolution;
+mod row_index;
 mod row_rules;
 mod rows;
 mod type_rows;
