@@ -8,3 +8,4 @@ pub mod Noted
 pub mod Passing
 pub mod Ranges
 pub mod RowLists
+pub mod Runs

@@ -60,8 +60,11 @@ unfoldable pub run_len : Metadata → ℕ → ℕ → ℕ → ℕ
 run_len m column table row = run_end m column table row - at m 0x02 row column
 
 -- the TypeDef row in whose run a row stands, the first where there are several; 0 where there is none
+abbrev pub in_run : ℕ → ℕ → ℕ → Bool
+in_run first end row = nat_le first row && nat_lt row end
+
 abbrev pub is_owner : Metadata → ℕ → ℕ → ℕ → ℕ → Bool
-is_owner m column table row def = nat_le (at m 0x02 def column) row && nat_lt row (run_end m column table def)
+is_owner m column table row def = in_run (at m 0x02 def column) (run_end m column table def) row
 
 unfoldable pub owner_of : Metadata → ℕ → ℕ → ℕ → ℕ
 owner_of m column table row = unwrap_or (find (is_owner m column table row) (rows_of m 0x02)) 0

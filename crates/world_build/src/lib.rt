@@ -10,6 +10,7 @@ mod image;
 mod member_table;
 mod names;
 mod nesting;
+mod owners;
 mod refusal;
 mod resolution;
 mod row_index;
