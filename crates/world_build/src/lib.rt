@@ -14,6 +14,7 @@ mod refusal;
 mod resolution;
 mod row_rules;
 mod rows;
+mod trees;
 mod type_rows;
 
 pub use cells::RowOf;
