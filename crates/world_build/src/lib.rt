@@ -16,6 +16,7 @@ mod resolution;
 mod row_index;
 mod row_rules;
 mod rows;
+mod trees;
 mod type_rows;
 
 pub use cells::RowOf;
