@@ -1,10 +1,12 @@
 -- The rows that have a number in a column: one row more, and the first of them.
-use Rattle.std.proofs.Common.{◌≡◌, ℕ, suc, ◌+◌, ◌==◌, Bool, true, false, cond, List, [], ◌∷◌, ◌++◌, Option, None, Some, slice_get, filter, refl, sym, ap, ◌∙◌, arith, if◌then◌else◌}
+use Rattle.std.proofs.Common.{◌≡◌, ℕ, zero, suc, ◌+◌, ◌<◌, ◌≤◌, ◌==◌, Bool, true, false, cond, List, [], ◌∷◌, ◌++◌, length, get_or, Option, None, Some, slice_get, filter, subst, refl, sym, ap, ◌∙◌, arith, if◌then◌else◌}
 use Rattle.std.specs.List.{find, range_with_len}
 use Rattle.std.proofs.lemmas.List.{append-nil}
 use Rattle.std.proofs.lemmas.List.Elements.{filter-append}
 use Rattle.cli_tables.specs.Metadata.{Metadata}
 use Rattle.world_build.specs.Cells.{at, rows, rows_of, rows_with, first_with}
+use Rattle.world_build.specs.RowIndexes.{AreRows, Indexes, first_of_group, group}
+use Rattle.world_build.specs.declared.row_index.RowIndex.{RowIndex}
 use Rattle.world_build.proofs.Ranges.{range_more}
 
 one_filtered : (p : ℕ → Bool) (row : ℕ) (b : Bool) (xs : List ℕ) → p row ≡ b → xs ++ filter p (row ∷ []) ≡ cond b (xs ++ row ∷ []) xs
@@ -49,3 +51,58 @@ first_of p (x ∷ xs) = first_kept p x xs (p x) refl (first_of p xs)
 pub first_is : (m : Metadata) (table column value : ℕ) → slice_get (rows_with m table column value) 0 ≡ first_with m table column value
 unfolding rows_with first_with
 first_is m table column value = first_of (λ row. at m table row column == value) (rows_of m table)
+
+-- ---- what is found are rows
+
+-- numbers from a first one to one before an end
+pub record AreBetween (start end : ℕ) (xs : List ℕ) : Type 0 where
+  pub first : (i : ℕ) → i < length xs → start ≤ get_or xs i 0
+  pub last : (i : ℕ) → i < length xs → get_or xs i 0 < end
+
+none_between : (start end : ℕ) → AreBetween start end []
+none_between start end = record { first = λ i within. absurd (omega arith); last = λ i within. absurd (omega arith) }
+
+front_first : (start end : ℕ) (xs : List ℕ) → AreBetween (start + 1) end xs → (i : ℕ) → i < length (start ∷ xs) → start ≤ get_or (start ∷ xs) i 0
+front_first start end xs rest zero within = omega arith
+front_first start end xs rest (suc i) within = omega (arith, rest.first i (omega arith))
+
+front_last : (start end : ℕ) (xs : List ℕ) → start < end → AreBetween (start + 1) end xs → (i : ℕ) → i < length (start ∷ xs) → get_or (start ∷ xs) i 0 < end
+front_last start end xs room rest zero within = room
+front_last start end xs room rest (suc i) within = rest.last i (omega arith)
+
+more_between : (start end : ℕ) (xs : List ℕ) (b : Bool) → start < end → AreBetween (start + 1) end xs → AreBetween start end (cond b (start ∷ xs) xs)
+more_between start end xs true room rest = record { first = front_first start end xs rest; last = front_last start end xs room rest }
+more_between start end xs false room rest = record { first = λ i within. omega (arith, rest.first i within); last = rest.last }
+
+kept_between : (p : ℕ → Bool) (start end n : ℕ) → start + n ≤ end → AreBetween start end (filter p (range_with_len start n))
+kept_between p start end zero room = none_between start end
+kept_between p start end (suc n) room =
+    more_between start end (filter p (range_with_len (start + 1) n)) (p start) (omega arith) (kept_between p (start + 1) end n (omega arith))
+
+pub found_rows : (m : Metadata) (table column value : ℕ) → AreRows m table (rows_with m table column value)
+unfolding rows_with
+found_rows m table column value =
+    let all = kept_between (λ row. at m table row column == value) 1 (rows m table + 1) (rows m table) (omega arith) in
+    record { first = all.first; last = λ i within. omega (arith, all.last i within) }
+
+-- ---- so of an index
+
+-- an index has rows of its table
+pub group_rows : (m : Metadata) (table column : ℕ) (index : RowIndex) → Indexes m table column index → (value : ℕ) → AreRows m table (group index value)
+group_rows m table column index indexed value = subst (AreRows m table) (sym (indexed.each value)) (found_rows m table column value)
+
+-- its first row is the first one that has the number
+pub first_given : (m : Metadata) (table column : ℕ) (index : RowIndex) → Indexes m table column index → (value : ℕ)
+    → first_of_group index value ≡ first_with m table column value
+first_given m table column index indexed value = ap (λ (xs : List ℕ). slice_get xs 0) (indexed.each value) ∙ first_is m table column value
+
+-- it is a row of the table
+first_inside : (m : Metadata) (table row : ℕ) (xs : List ℕ) → AreRows m table xs → slice_get xs 0 ≡ Some row → (1 ≤ row) × (row ≤ rows m table)
+first_inside m table row [] are e = cc
+first_inside m table row (x ∷ xs) are e =
+    let same : x ≡ row = cc in
+    (omega (arith, are.first 0 (omega arith)), omega (arith, are.last 0 (omega arith)))
+
+pub first_row : (m : Metadata) (table column : ℕ) (index : RowIndex) → Indexes m table column index → (value row : ℕ)
+    → first_of_group index value ≡ Some row → (1 ≤ row) × (row ≤ rows m table)
+first_row m table column index indexed value row e = first_inside m table row (group index value) (group_rows m table column index indexed value) e

@@ -1,6 +1,7 @@
 -- The rows of a table by the number in one of their columns, as an index has them.
-use Rattle.std.specs.Prelude.{◌≡◌, ℕ, ◌==◌, List, [], ◌∷◌, ◌++◌, nat_eq, Option, slice_get, unwrap_or, if◌then◌else◌}
+use Rattle.std.specs.Prelude.{◌≡◌, ℕ, ◌<◌, ◌≤◌, ◌==◌, List, [], ◌∷◌, ◌++◌, nat_eq, length, Option, slice_get, slice_index, unwrap_or, if◌then◌else◌}
 use Rattle.indexmap.specs.IndexMap.{IndexMap, get}
+use Rattle.cli_tables.specs.Layout.{row_count}
 use Rattle.cli_tables.specs.Metadata.{Metadata}
 use Rattle.world_build.specs.declared.row_index.RowIndex.{RowIndex}
 use Rattle.world_build.specs.Cells.{rows_with}
@@ -24,3 +25,8 @@ pub record Indexes (m : Metadata) (table column : ℕ) (index : RowIndex) : Type
 -- the first row that an index has at a number
 abbrev pub first_of_group : RowIndex → ℕ → Option ℕ
 first_of_group index value = slice_get (group index value) 0
+
+-- each of them is a row of a table
+pub record AreRows (m : Metadata) (table : ℕ) (found : List ℕ) : Type 0 where
+  pub first : (i : ℕ) → i < length found → 1 ≤ slice_index found i
+  pub last : (i : ℕ) → i < length found → slice_index found i ≤ row_count m.tables table

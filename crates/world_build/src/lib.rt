@@ -7,6 +7,7 @@ mod core_table;
 mod core_type;
 mod file_names;
 mod image;
+mod indexed_rows;
 mod member_table;
 mod names;
 mod nesting;
