@@ -8,6 +8,7 @@ mod core_type;
 mod file_names;
 mod image;
 mod member_table;
+mod members;
 mod names;
 mod nesting;
 mod refusal;
