@@ -9,6 +9,7 @@ mod file_names;
 mod image;
 mod indexed_rows;
 mod member_table;
+mod members;
 mod names;
 mod nesting;
 mod owners;
