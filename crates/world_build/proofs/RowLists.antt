@@ -88,8 +88,11 @@ found_rows m table column value =
 -- ---- so of an index
 
 -- an index has rows of its table
-pub group_rows : (m : Metadata) (table column : ℕ) (index : RowIndex) → Indexes m table column index → (value : ℕ) → AreRows m table (group index value)
+group_rows : (m : Metadata) (table column : ℕ) (index : RowIndex) → Indexes m table column index → (value : ℕ) → AreRows m table (group index value)
 group_rows m table column index indexed value = subst (AreRows m table) (sym (indexed.each value)) (found_rows m table column value)
+
+pub found_in : (m : Metadata) (table column : ℕ) (index : RowIndex) → Indexes m table column index → (value : ℕ) (xs : List ℕ) → xs ≡ group index value → AreRows m table xs
+found_in m table column index indexed value xs e = subst (AreRows m table) (sym e) (group_rows m table column index indexed value)
 
 -- its first row is the first one that has the number
 pub first_given : (m : Metadata) (table column : ℕ) (index : RowIndex) → Indexes m table column index → (value : ℕ)

@@ -3,6 +3,7 @@ use Rattle.std.specs.Prelude.{◌≡◌, ℕ, ◌<◌, ◌≤◌, ◌==◌, List
 use Rattle.indexmap.specs.IndexMap.{IndexMap, get}
 use Rattle.cli_tables.specs.Layout.{row_count}
 use Rattle.cli_tables.specs.Metadata.{Metadata}
+use Rattle.world_build.specs.declared.file_rows.FileRows.{FileRows}
 use Rattle.world_build.specs.declared.row_index.RowIndex.{RowIndex}
 use Rattle.world_build.specs.Cells.{rows_with}
 
@@ -30,3 +31,13 @@ first_of_group index value = slice_get (group index value) 0
 pub record AreRows (m : Metadata) (table : ℕ) (found : List ℕ) : Type 0 where
   pub first : (i : ℕ) → i < length found → 1 ≤ slice_index found i
   pub last : (i : ℕ) → i < length found → slice_index found i ≤ row_count m.tables table
+
+-- the indexes of a file: InterfaceImpl by its class, GenericParam and GenericParamConstraint by their owners, ClassLayout by
+-- its parent, FieldLayout by its field, MethodImpl by its class
+pub record AreFileRows (m : Metadata) (found : FileRows) : Type 0 where
+  pub interfaces : Indexes m 0x09 0 found.interfaces
+  pub params : Indexes m 0x2A 2 found.params
+  pub constraints : Indexes m 0x2C 0 found.constraints
+  pub class_layouts : Indexes m 0x0F 2 found.class_layouts
+  pub field_layouts : Indexes m 0x10 1 found.field_layouts
+  pub method_impls : Indexes m 0x19 0 found.method_impls

@@ -6,6 +6,8 @@ mod core_parts;
 mod core_table;
 mod core_type;
 mod file_names;
+mod file_rows;
+mod formals;
 mod image;
 mod indexed_rows;
 mod member_table;

@@ -36,6 +36,19 @@ pub fn run_len(tables: &Tables<'_>, column: u8, table: u8, row: u32) -> u32
     run_end(tables, column, table, row).saturating_sub(first)
 }
 
+/// How many rows of a table stand before the run of a definition: all of them where it begins behind them.
+#[tactic(auto, unfolding(crate::specs::Cells::before_run))]
+pub fn before_run(tables: &Tables<'_>, column: u8, table: u8, row: u32) -> u32
+    requires first { 1 ≤ row }
+    requires last { row ≤ row_count tables.now.tables 0x02 }
+    requires column { column < length (columns 0x02) }
+    ensures exact { result ≡ spec.before_run tables.now column table row }
+    ensures few { result ≤ 16777215 }
+{
+    let first = tables.cell(TYPE_DEF, row, column);
+    first.saturating_sub(1).min(tables.row_count(table))
+}
+
 /// How many rows of a table stand before the first run, and so in none.
 #[tactic(auto, unfolding(crate::specs::Cells::loose))]
 pub fn loose(tables: &Tables<'_>, column: u8, table: u8) -> u32
