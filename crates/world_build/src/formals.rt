@@ -1,5 +1,5 @@
 //! Generic parameters (ECMA-335 II.22.20), and their constraints (II.22.21).
-ghost use Rattle.std.specs.Prelude.{◌≡◌, IfOk};
+ghost use Rattle.std.specs.Prelude.{◌≡◌, ◌≤◌, IfOk};
 ghost use Rattle.world_build.specs.Members as spec;
 ghost use Rattle.world_build.specs.RowIndexes.{Indexes};
 ghost use Rattle.world_build.specs.Trees.{AreNumbered};
@@ -22,6 +22,22 @@ const FLAGS: u8 = 1;
 
 /// The column Constraint of GenericParamConstraint, a coded index TypeDefOrRef.
 const CONSTRAINT: u8 = 1;
+
+/// The coded index TypeOrMethodDef (II.24.2.6) of a TypeDef row.
+pub fn type_owner(row: u32) -> u32
+    requires { row ≤ 16777215 }
+    ensures { result ≡ spec.type_owner row }
+{
+    2 * row
+}
+
+/// The coded index TypeOrMethodDef of a MethodDef row.
+pub fn method_owner(row: u32) -> u32
+    requires { row ≤ 16777215 }
+    ensures { result ≡ spec.method_owner row }
+{
+    2 * row + 1
+}
 
 /// The constraints of a generic parameter, given an index of GenericParamConstraint by the column Owner.
 #[tactic(auto, unfolding(cli_tables::specs::Schema::columns))]

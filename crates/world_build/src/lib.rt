@@ -5,6 +5,7 @@ mod cells;
 mod core_parts;
 mod core_table;
 mod core_type;
+mod definitions;
 mod file_names;
 mod file_rows;
 mod formals;

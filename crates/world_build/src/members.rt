@@ -65,7 +65,7 @@ fn field_sig(alloc: Global, tables: &Tables<'_>, row: u32) -> Result<SigTy, Memo
 }
 
 /// The name of a row, among those of its table.
-fn name_at(names: &[NameId], row: u32) -> NameId
+pub(crate) fn name_at(names: &[NameId], row: u32) -> NameId
     ensures { result ≡ get_or names.now (row - 1) empty_name }
 {
     let name = at(names, row.saturating_sub(1) as usize).copied();
