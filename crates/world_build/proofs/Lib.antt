@@ -8,6 +8,7 @@ pub mod FileSums
 pub mod Giving
 pub mod Inside
 pub mod ListFacts
+pub mod MemberCells
 pub mod MembersFit
 pub mod NameLemmas
 pub mod NamesCount
@@ -17,7 +18,9 @@ pub mod Passing
 pub mod PlacesFit
 pub mod Ranges
 pub mod ReferencesFit
+pub mod RowLists
 pub mod Runs
+pub mod RunsFit
 pub mod SigFolds
 pub mod TreesFit
 pub mod WholeWorld

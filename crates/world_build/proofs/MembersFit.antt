@@ -43,15 +43,6 @@ pub record NamesFit (c : Counts) (n : FileNames) : Type 0 where
   pub fields : list_all (name_fits c) n.fields ≡ true
   pub methods : list_all (name_fits c) n.methods ≡ true
 
--- the owner of a row is a row of TypeDef, or none
-pub owner_within : (m : Metadata) (column table row : ℕ) → owner_of m column table row ≤ rows m 0x02
-unfolding owner_of
-owner_within m column table row = by (find (is_owner m column table row) (rows_of m 0x02)) refl
-  where
-    by : (o : Option ℕ) → find (is_owner m column table row) (rows_of m 0x02) ≡ o → unwrap_or o 0 ≤ rows m 0x02
-    by None e = omega arith
-    by (Some x) e = let within = found_within (is_owner m column table row) 1 (rows m 0x02) x e in omega (arith, within.1)
-
 module _ (c : Counts) where
   -- ---- generic parameters
 
@@ -63,42 +54,43 @@ module _ (c : Counts) where
 
   -- ---- methods and fields
 
-  owner_fits : (s : TypeRows) (def : ℕ) → RowsFit c s → def ≤ s.defs → nat_lt (owner_id s def).0 c.defs ≡ true
-  owner_fits s def ok few =
-      choose (λ (d : ℕ). nat_lt d c.defs ≡ true) (def == 0) _ _
+  owner_fits : (s : TypeRows) (def : ℕ) → RowsFit c s → nat_lt (owner_id s def).0 c.defs ≡ true
+  owner_fits s def ok =
+      choose (λ (d : ℕ). nat_lt d c.defs ≡ true) (nat_le 1 def && nat_le def s.defs) _ _
+      (λ e. let parts = and_parts (nat_le 1 def) (nat_le def s.defs) e in
+        lt-ltb (s.first_def + (def - 1)) c.defs (omega (arith, ok.defs, leb-true 1 def parts.0, leb-true def s.defs parts.1)))
       (λ _. lt-ltb 0 c.defs (omega (arith, ok.core)))
-      (λ e. let some : def ≢ 0 = eqb-false def 0 e in lt-ltb (s.first_def + (def - 1)) c.defs (omega (arith, ok.defs, few, some)))
 
-  pub method_of_fits : (n : FileNames) (m : Metadata) (def row : ℕ) → NamesFit c n → def ≤ n.types.defs → method_fits c (method_of n m def row) ≡ true
+  pub method_of_fits : (n : FileNames) (m : Metadata) (def row : ℕ) → NamesFit c n → method_fits c (method_of n m def row) ≡ true
   unfolding method_of
-  method_of_fits n m def row ok few =
+  method_of_fits n m def row ok =
       both _ _
       (both _ _
         (both _ _
-          (both _ _ (all_at_or (name_fits c) n.methods (row - 1) empty_name ok.methods (lt-ltb 52 c.names ok.types.empty)) (owner_fits n.types def ok.types few))
+          (both _ _ (all_at_or (name_fits c) n.methods (row - 1) empty_name ok.methods (lt-ltb 52 c.names ok.types.empty)) (owner_fits n.types def ok.types))
           (formals_of_fit n.types m (method_owner row) ok.types))
         (tree_fits c n.types ok.types (method_sig m row).ret))
       (trees_fit c n.types ok.types (method_sig m row).params)
 
-  pub field_of_fits : (n : FileNames) (m : Metadata) (def row : ℕ) → NamesFit c n → def ≤ n.types.defs → field_fits c (field_of n m def row) ≡ true
+  pub field_of_fits : (n : FileNames) (m : Metadata) (def row : ℕ) → NamesFit c n → field_fits c (field_of n m def row) ≡ true
   unfolding field_of
-  field_of_fits n m def row ok few =
+  field_of_fits n m def row ok =
       both _ _
-      (both _ _ (all_at_or (name_fits c) n.fields (row - 1) empty_name ok.fields (lt-ltb 52 c.names ok.types.empty)) (owner_fits n.types def ok.types few))
+      (both _ _ (all_at_or (name_fits c) n.fields (row - 1) empty_name ok.fields (lt-ltb 52 c.names ok.types.empty)) (owner_fits n.types def ok.types))
       (tree_fits c n.types ok.types (field_sig m row))
 
   -- those of a file
-  pub file_methods_fit : (n : FileNames) (m : Metadata) → NamesFit c n → n.types.defs ≡ rows m 0x02 → list_all (method_fits c) (file_methods n m) ≡ true
+  pub file_methods_fit : (n : FileNames) (m : Metadata) → NamesFit c n → list_all (method_fits c) (file_methods n m) ≡ true
   unfolding file_methods
-  file_methods_fit n m ok all =
+  file_methods_fit n m ok =
       all_of_map (method_fits c) (λ row. method_of n m (owner_of m 5 0x06 row) row) (rows_of m 0x06)
-      (λ row. method_of_fits n m (owner_of m 5 0x06 row) row ok (omega (arith, owner_within m 5 0x06 row, all)))
+      (λ row. method_of_fits n m (owner_of m 5 0x06 row) row ok)
 
-  pub file_fields_fit : (n : FileNames) (m : Metadata) → NamesFit c n → n.types.defs ≡ rows m 0x02 → list_all (field_fits c) (file_fields n m) ≡ true
+  pub file_fields_fit : (n : FileNames) (m : Metadata) → NamesFit c n → list_all (field_fits c) (file_fields n m) ≡ true
   unfolding file_fields
-  file_fields_fit n m ok all =
+  file_fields_fit n m ok =
       all_of_map (field_fits c) (λ row. field_of n m (owner_of m 4 0x04 row) row) (rows_of m 0x04)
-      (λ row. field_of_fits n m (owner_of m 4 0x04 row) row ok (omega (arith, owner_within m 4 0x04 row, all)))
+      (λ row. field_of_fits n m (owner_of m 4 0x04 row) row ok)
 
 -- ---- members by name and signature
 

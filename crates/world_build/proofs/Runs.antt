@@ -1,64 +1,80 @@
--- Where the checks of all rows pass, the runs of TypeDef rows are within their tables.
-use Rattle.std.proofs.Common.{◌≡◌, ◌⊎◌, inl, inr, ℕ, ◌+◌, ◌-◌, ◌<◌, ◌≤◌, Bool, true, false, List, Ok, get_or, length, if◌then◌else◌, refl, ap, ◌∙◌, subst, arith}
-use Rattle.std.specs.Prelude.{◌&&◌, ◌==◌, nat_le, nat_lt}
-use Rattle.std.proofs.lemmas.Bool.{and_parts, leb-true, ltb-true, le-leb}
-use Rattle.clr_base.specs.Checks.{first_fault}
-use Rattle.cli_tables.specs.declared.schema.Column.TheVariants.{U8, Run}
-use Rattle.cli_tables.specs.Layout.{row_count}
+-- The TypeDef rows from the last one to the first: what the run of each says in front of those behind it.
+use Rattle.std.proofs.Common.{◌≡◌, ℕ, zero, suc, ◌+◌, ◌-◌, ◌<◌, ◌≤◌, List, ◌∷◌, Bool, true, false, length, get_or, map, max, min, replicate, unwrap_or, refl, sym, ap, ap₂, ◌∙◌, arith, if◌then◌else◌}
+use Rattle.std.proofs.lemmas.List.{length-replicate, get_or-replicate}
+use Rattle.std.proofs.lemmas.List.FromFn.{fill_by_all}
+use Rattle.std.specs.List.{find, range_with_len}
 use Rattle.cli_tables.specs.Metadata.{Metadata}
-use Rattle.cli_tables.specs.Schema.{columns}
-use Rattle.type_tree.specs.declared.counts.Counts.{Counts}
-use Rattle.type_tree.specs.Fits.{is_within}
-use Rattle.world_build.specs.CoreTable.{core_methods}
-use Rattle.world_build.specs.Cells.{rows, at, run_end, run_len, loose}
-use Rattle.world_build.specs.MemberTable.{run_of}
-use Rattle.world_build.specs.Resolution.{rows_before}
-use Rattle.world_build.specs.Rows.{token, is_run, cell_before, cell_checks, ArePassed}
-use Rattle.world_build.proofs.DefsFit.{RunFits}
-use Rattle.world_build.proofs.ListFacts.{choose}
-use Rattle.world_build.proofs.Passing.{one_passes, cell_passes, columns_pass, row_at, type_defs_pass}
+use Rattle.world_build.specs.Cells.{at, rows, rows_of, run_end, in_run, is_owner, owner_of}
 
--- the first row of a run in a column
-pub record StartsWell (m : Metadata) (column table row : ℕ) : Type 0 where
-  pub first : 1 ≤ at m 0x02 row column
-  pub last : at m 0x02 row column ≤ rows m table + 1
+-- ---- one run
 
-starts : (m : Metadata) (table before value : ℕ) → is_run m table before value ≡ true → (1 ≤ value) × (value ≤ rows m table + 1)
-unfolding is_run
-starts m table before value e =
-    let all = and_parts (nat_le 1 value && nat_le value (row_count m.tables table + 1)) (nat_le before value) e in
-    let two = and_parts (nat_le 1 value) (nat_le value (row_count m.tables table + 1)) all.0 in
-    (leb-true 1 value two.0, leb-true value (row_count m.tables table + 1) two.1)
+-- what was set of a run that begins at a first row, up to a row
+pub record RunSet (first row owner : ℕ) (old new : List ℕ) : Type 0 where
+  pub count : length new ≡ length old
+  pub each : (i d : ℕ) → i < length old → get_or new i d ≡ (if in_run first row (i + 1) then owner else get_or old i d)
 
-module _ (m : Metadata) (passed : ArePassed m) where
-  cell_good : (row c : ℕ) → c < length (columns 2) → 1 ≤ row → row ≤ rows m 0x02 → first_fault (cell_checks m 2 row c) ≡ Ok (tt {0})
-  cell_good row c within first last = cell_passes m 2 row c within (columns_pass m 2 row (row_at m 2 row first last (type_defs_pass m passed)))
+pub stopped_in : (first end row i n : ℕ) → i < n → min end (n + 1) ≤ row → row ≤ max (max first 1) (min end (n + 1)) → in_run first row (i + 1) ≡ in_run first end (i + 1)
+stopped_in first end row i n within stop last = grind arith
 
-  pub fields_start : (row : ℕ) → 1 ≤ row → row ≤ rows m 0x02 → StartsWell m 4 0x04 row
-  unfolding columns cell_checks
-  fields_start row first last =
-      let h = starts m 0x04 (cell_before m 2 row 4) (at m 0x02 row 4) (one_passes _ _ _ (cell_good row 4 (omega arith) first last)) in
-      record { first = h.0; last = h.1 }
+-- ---- all of them
 
-  pub methods_start : (row : ℕ) → 1 ≤ row → row ≤ rows m 0x02 → StartsWell m 5 0x06 row
-  unfolding columns cell_checks
-  methods_start row first last =
-      let h = starts m 0x06 (cell_before m 2 row 5) (at m 0x02 row 5) (one_passes _ _ _ (cell_good row 5 (omega arith) first last)) in
-      record { first = h.0; last = h.1 }
+-- the first of n definitions from a first one on that owns a row
+unfoldable pub owner_by : Metadata → ℕ → ℕ → ℕ → ℕ → ℕ → ℕ
+owner_by m column table first n row = unwrap_or (find (is_owner m column table row) (range_with_len first n)) 0
 
--- a run is within its table, where it and the next one start well
-run_ends : (m : Metadata) (column table row : ℕ) → StartsWell m column table row → (row < rows m 0x02 → StartsWell m column table (row + 1))
-    → at m 0x02 row column - 1 + run_len m column table row ≤ rows m table
-unfolding run_len
-run_ends m column table row here next =
-    choose (λ (end : ℕ). at m 0x02 row column - 1 + (end - at m 0x02 row column) ≤ rows m table) (nat_lt row (rows m 0x02)) _ _
-    (λ e. let more = next (ltb-true row (rows m 0x02) e) in omega (arith, here.first, here.last, more.last))
-    (λ _. omega (arith, here.first, here.last))
+-- the owners of all rows, as the definitions behind the first k tell them
+pub record OwnedBehind (m : Metadata) (column table k : ℕ) (owners : List ℕ) : Type 0 where
+  pub count : length owners ≡ rows m table
+  pub each : (i d : ℕ) → i < rows m table → get_or owners i d ≡ owner_by m column table (k + 1) (rows m 0x02 - k) (i + 1)
 
-pub run_fits : (c : Counts) (files : List Metadata) (k : ℕ) (m : Metadata) (row : ℕ) → ArePassed m → 1 ≤ row → row ≤ rows m 0x02
-    → rows_before files k 0x04 + rows m 0x04 ≤ c.fields → core_methods + (rows_before files k 0x06 + rows m 0x06) ≤ c.methods → RunFits c (run_of files k m row)
-unfolding run_of
-run_fits c files k m row passed first last fields methods =
-    let own = run_ends m 4 0x04 row (fields_start m passed row first last) (λ more. fields_start m passed (row + 1) (omega arith) (omega (arith, more))) in
-    let other = run_ends m 5 0x06 row (methods_start m passed row first last) (λ more. methods_start m passed (row + 1) (omega arith) (omega (arith, more))) in
-    record { fields = le-leb _ _ (omega (arith, own, fields)); methods = le-leb _ _ (omega (arith, other, methods)) }
+by_none : (m : Metadata) (column table first row : ℕ) → owner_by m column table first 0 row ≡ 0
+unfolding owner_by
+by_none m column table first row = refl
+
+by_front : (m : Metadata) (column table first n row : ℕ) (b : Bool) → is_owner m column table row first ≡ b
+    → owner_by m column table first (suc n) row ≡ (if b then first else owner_by m column table (first + 1) n row)
+unfolding owner_by
+by_front m column table first n row true e = rw e refl
+by_front m column table first n row false e = rw e refl
+
+pub owned_none : (m : Metadata) (column table k : ℕ) (owners : List ℕ) → k ≡ rows m 0x02 → owners ≡ replicate (rows m table) 0 → OwnedBehind m column table k owners
+owned_none m column table k owners all zeros = record {
+  count = ap length zeros ∙ length-replicate (rows m table) 0;
+  each = λ i d within.
+      let none : rows m 0x02 - k ≡ 0 = omega arith in
+      ap (λ (xs : List ℕ). get_or xs i d) zeros ∙ get_or-replicate (rows m table) i 0 d within
+      ∙ sym (by_none m column table (k + 1) (i + 1)) ∙ ap (λ (n : ℕ). owner_by m column table (k + 1) n (i + 1)) (sym none);
+}
+
+-- the definition k + 1 in front of those behind it
+pub owned_more : (m : Metadata) (column table k j first end : ℕ) (old new : List ℕ) → j ≡ k + 1 → k < rows m 0x02 → OwnedBehind m column table j old
+    → first ≡ at m 0x02 (k + 1) column → end ≡ run_end m column table (k + 1)
+    → length new ≡ length old → ((i d : ℕ) → i < length old → get_or new i d ≡ (if in_run first end (i + 1) then k + 1 else get_or old i d))
+    → OwnedBehind m column table k new
+owned_more m column table k j first end old new next within before first_is end_is count set = record {
+  count = count ∙ before.count;
+  each = λ i d inside.
+      let room : i < length old = omega (arith, before.count) in
+      let more : rows m 0x02 - k ≡ suc (rows m 0x02 - (k + 1)) = omega arith in
+      set i d room
+      ∙ ap (λ (b : Bool). if b then k + 1 else get_or old i d) (ap₂ (λ (f e : ℕ). in_run f e (i + 1)) first_is end_is)
+      ∙ ap (λ (x : ℕ). if is_owner m column table (i + 1) (k + 1) then k + 1 else x)
+        (before.each i d inside ∙ ap (λ (x : ℕ). owner_by m column table (x + 1) (rows m 0x02 - x) (i + 1)) next)
+      ∙ sym (ap (λ (n : ℕ). owner_by m column table (k + 1) n (i + 1)) more
+          ∙ by_front m column table (k + 1) (rows m 0x02 - (k + 1)) (i + 1) (is_owner m column table (i + 1) (k + 1)) refl);
+}
+
+from_one : {X : Type 0} (f : ℕ → X) (a n : ℕ) → map f (range_with_len (a + 1) n) ≡ map (λ i. f (i + 1)) (range_with_len a n)
+from_one f a zero = refl
+from_one f a (suc n) = ap (λ xs. f (a + 1) ∷ xs) (from_one f (a + 1) n)
+
+pub owned_all : (m : Metadata) (column table k : ℕ) (owners : List ℕ) → k ≡ 0 → OwnedBehind m column table k owners
+    → owners ≡ map (owner_of m column table) (rows_of m table)
+unfolding owner_by owner_of
+owned_all m column table k owners first owned =
+    let whole : rows m 0x02 - k ≡ rows m 0x02 = omega arith in
+    fill_by_all (λ i. owner_of m column table (i + 1)) owners (rows m table) 0 owned.count
+    (λ i within.
+    owned.each i 0 within ∙ ap (λ (n : ℕ). owner_by m column table (k + 1) n (i + 1)) whole
+    ∙ ap (λ (x : ℕ). owner_by m column table (x + 1) (rows m 0x02) (i + 1)) first)
+    ∙ sym (from_one (owner_of m column table) 0 (rows m table))

@@ -40,7 +40,7 @@ use Rattle.world_build.proofs.MembersFit.{NamesFit, file_methods_fit, file_field
 use Rattle.world_build.proofs.NamesCount.{named_rows, names_few, more_than_core}
 use Rattle.world_build.proofs.NamesThere.{type_rows_fit, file_names_fit}
 use Rattle.world_build.proofs.ReferencesFit.{ReaderFits, member_ref_fits, method_spec_fits, impls_of_fit}
-use Rattle.world_build.proofs.Runs.{run_fits}
+use Rattle.world_build.proofs.RunsFit.{run_fits}
 use Rattle.world_build.proofs.TreesFit.{RowsFit}
 use Rattle.world_build.proofs.WorldCounts.{all_taken, def_total, method_total, field_total, sig_total}
 use Rattle.world_build.proofs.WorldFits.{AreFew, named_few, length_of_bytes, all_of_bytes, table_at, one_each}
@@ -161,10 +161,6 @@ module _ (files : List (List ℕ)) (few : AreFew files) where
       own = omega (arith, method_total ts, rows_within ts k 0x06 m there);
     }
 
-    defs_of_types : (file_names ts k m).types.defs ≡ rows m 0x02
-    unfolding file_names type_rows
-    defs_of_types = refl
-
     file_there : k < c.files
     file_there = omega (arith, there_is ts k m there, length_of_bytes (λ b k m. world_file ts b k m ∷ []) (λ m. 1) 0 files (λ b k m. refl), ones ts)
 
@@ -191,13 +187,13 @@ module _ (files : List (List ℕ)) (few : AreFew files) where
   methods_all =
       all_of_both (method_fits c) _ _ (methods_fit_all c some_names some_defs some_methods)
       (all_of_each (λ k m. file_methods (file_names ts k m) m) (method_fits c) ts
-        (λ k m there. file_methods_fit c (file_names ts k m) m (names_fit k m there) (defs_of_types k m there)))
+        (λ k m there. file_methods_fit c (file_names ts k m) m (names_fit k m there)))
 
   fields_all : list_all (field_fits c) (member_table ts).fields ≡ true
   unfolding member_table
   fields_all =
       all_of_each (λ k m. file_fields (file_names ts k m) m) (field_fits c) ts
-      (λ k m there. file_fields_fit c (file_names ts k m) m (names_fit k m there) (defs_of_types k m there))
+      (λ k m there. file_fields_fit c (file_names ts k m) m (names_fit k m there))
 
   sigs_all : list_all (key_fits c) (well_known ++ of_each (λ k m. file_keys (reader ts k m)) ts) ≡ true
   sigs_all =

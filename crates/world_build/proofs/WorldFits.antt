@@ -39,7 +39,7 @@ use Rattle.world_build.proofs.MembersFit.{NamesFit, file_methods_fit, file_field
 use Rattle.world_build.proofs.NamesCount.{named_rows, names_few, more_than_core}
 use Rattle.world_build.proofs.NamesThere.{type_rows_fit, file_names_fit}
 use Rattle.world_build.proofs.ReferencesFit.{ReaderFits, member_ref_fits, method_spec_fits, impls_of_fit}
-use Rattle.world_build.proofs.Runs.{run_fits}
+use Rattle.world_build.proofs.RunsFit.{run_fits}
 use Rattle.world_build.proofs.TreesFit.{RowsFit}
 use Rattle.world_build.proofs.WorldCounts.{def_total, method_total, field_total, sig_total}
 

@@ -1,5 +1,5 @@
 -- What stands in the rows of a file (ECMA-335 II.22, II.24.2).
-use Rattle.std.specs.Prelude.{ℕ, ◌+◌, ◌-◌, ◌/◌, ◌%◌, ◌^◌, List, [], ◌==◌, ◌&&◌, Bool, nat_le, nat_lt, filter, Option, None, Some, unwrap_or, if◌then◌else◌, get_or}
+use Rattle.std.specs.Prelude.{ℕ, ◌+◌, ◌-◌, ◌/◌, ◌%◌, ◌^◌, List, [], ◌==◌, ◌&&◌, Bool, nat_le, nat_lt, min, filter, Option, None, Some, unwrap_or, if◌then◌else◌, get_or}
 use Rattle.std.specs.List.{find, range_with_len}
 use Rattle.std.specs.Str.{is_utf8}
 use Rattle.cli_tables.specs.declared.schema.CodedIndex.{CodedIndex}
@@ -59,9 +59,16 @@ run_end m column table row = if nat_lt row (rows m 0x02) then at m 0x02 (row + 1
 unfoldable pub run_len : Metadata → ℕ → ℕ → ℕ → ℕ
 run_len m column table row = run_end m column table row - at m 0x02 row column
 
+-- how many rows of a table stand before a run: all of them where it begins behind them
+unfoldable pub before_run : Metadata → ℕ → ℕ → ℕ → ℕ
+before_run m column table row = min (at m 0x02 row column - 1) (rows m table)
+
 -- the TypeDef row in whose run a row stands, the first where there are several; 0 where there is none
+abbrev pub in_run : ℕ → ℕ → ℕ → Bool
+in_run first end row = nat_le first row && nat_lt row end
+
 abbrev pub is_owner : Metadata → ℕ → ℕ → ℕ → ℕ → Bool
-is_owner m column table row def = nat_le (at m 0x02 def column) row && nat_lt row (run_end m column table def)
+is_owner m column table row def = in_run (at m 0x02 def column) (run_end m column table def) row
 
 unfoldable pub owner_of : Metadata → ℕ → ℕ → ℕ → ℕ
 owner_of m column table row = unwrap_or (find (is_owner m column table row) (rows_of m 0x02)) 0

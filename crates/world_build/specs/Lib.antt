@@ -11,6 +11,7 @@ pub mod Nesting
 pub mod References
 pub mod Refusals
 pub mod Resolution
+pub mod RowIndexes
 pub mod Rows
 pub mod RowsBefore
 pub mod Signatures

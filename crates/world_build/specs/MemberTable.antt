@@ -1,5 +1,5 @@
 -- The members of a world by their definitions, and those that a name and a signature find.
-use Rattle.std.specs.Prelude.{ℕ, ◌+◌, ◌-◌, ◌==◌, ◌&&◌, List, [], ◌∷◌, ◌++◌, map, length, Bool, true, false, Option, None, Some, slice_get, get_or}
+use Rattle.std.specs.Prelude.{ℕ, ◌+◌, ◌==◌, ◌&&◌, List, [], ◌∷◌, ◌++◌, map, length, Bool, true, false, Option, None, Some, slice_get, get_or}
 use Rattle.std.specs.Option.{option_map, option_map_or, option_and_then}
 use Rattle.std.specs.List.{find, range_with_len, flat_map, enumerate_from}
 use Rattle.std.proofs.Math.ListN.{replicate}
@@ -19,7 +19,7 @@ use Rattle.world_build.specs.declared.member_table.Run.{Run}
 use Rattle.world_build.specs.declared.type_rows.TypeRows.{TypeRows}
 use Rattle.world_build.specs.CoreLibrary as core
 use Rattle.world_build.specs.CoreTable.{core_methods}
-use Rattle.world_build.specs.Cells.{rows_of, at, run_len}
+use Rattle.world_build.specs.Cells.{rows_of, before_run, run_len}
 use Rattle.world_build.specs.Members.{file_methods, file_generics, file_fields}
 use Rattle.world_build.specs.Resolution.{rows_before}
 use Rattle.world_build.specs.Trees.{tree, trees}
@@ -30,14 +30,17 @@ use Rattle.world_build.specs.WorldNames.{file_names}
 abbrev pub core_run : Def → Run
 core_run d = record { first_field = d.first_field; fields = d.fields; first_method = d.first_method; methods = d.methods }
 
--- the run of the definition in a TypeDef row (II.22.37)
-unfoldable pub run_of : List Metadata → ℕ → Metadata → ℕ → Run
-run_of files k m row = record {
-  first_field = rows_before files k 0x04 + (at m 0x02 row 4 - 1);
+-- the run of the definition in a TypeDef row (II.22.37), where so many fields and methods of files stand before its file's
+unfoldable pub run_at : ℕ → ℕ → Metadata → ℕ → Run
+run_at fields methods m row = record {
+  first_field = fields + before_run m 4 0x04 row;
   fields = run_len m 4 0x04 row;
-  first_method = core_methods + rows_before files k 0x06 + (at m 0x02 row 5 - 1);
+  first_method = core_methods + methods + before_run m 5 0x06 row;
   methods = run_len m 5 0x06 row;
 }
+
+abbrev pub run_of : List Metadata → ℕ → Metadata → ℕ → Run
+run_of files k m row = run_at (rows_before files k 0x04) (rows_before files k 0x06) m row
 
 -- what each file gives, one after the other; files are counted from 0 here
 abbrev pub of_each : {X : Type 0} → (ℕ → Metadata → List X) → List Metadata → List X

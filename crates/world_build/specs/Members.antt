@@ -1,5 +1,5 @@
 -- Methods and fields of files (ECMA-335 II.22.15, II.22.26).
-use Rattle.std.specs.Prelude.{ℕ, ◌+◌, ◌-◌, ◌*◌, ◌==◌, List, [], map, length, false, Option, None, Some, get_or, if◌then◌else◌}
+use Rattle.std.specs.Prelude.{ℕ, ◌+◌, ◌-◌, ◌*◌, ◌==◌, ◌&&◌, nat_le, List, [], map, length, false, Option, None, Some, get_or, if◌then◌else◌}
 use Rattle.std.specs.Option.{option_map}
 use Rattle.clr_base.specs.declared.ids.DefId.{DefId}
 use Rattle.clr_base.specs.declared.ids.NameId.{NameId}
@@ -50,9 +50,9 @@ field_sig m row = value_or (sig.Odd 0) (placed (blob m 0x04 row 2) (field_at (ro
 
 -- ---- methods and fields
 
--- the definition that owns a row of a run; 0 where none does
+-- the definition in the TypeDef row that owns a row of a run; 0 where none does
 abbrev pub owner_id : TypeRows → ℕ → DefId
-owner_id s def = record { 0 = (if def == 0 then 0 else s.first_def + (def - 1)) }
+owner_id s def = record { 0 = (if nat_le 1 def && nat_le def s.defs then s.first_def + (def - 1) else 0) }
 
 -- a method of the definition in a TypeDef row, or of none, which is 0
 unfoldable pub method_of : FileNames → Metadata → ℕ → ℕ → Method

@@ -1,5 +1,5 @@
 -- The trees of types that a file's rows and signatures mean.
-use Rattle.std.specs.Prelude.{ℕ, ◌+◌, ◌-◌, ◌==◌, ◌&&◌, nat_le, List, [], map, Bool, true, false, Option, None, Some, Result, Ok, Err, slice_get, if◌then◌else◌}
+use Rattle.std.specs.Prelude.{ℕ, ◌+◌, ◌-◌, ◌^◌, ◌≤◌, ◌==◌, ◌&&◌, nat_le, List, [], map, Bool, true, false, Option, None, Some, Result, Ok, Err, slice_get, if◌then◌else◌}
 use Rattle.clr_base.specs.declared.ids.DefId.{DefId}
 use Rattle.clr_base.specs.declared.ids.NameId.{NameId}
 use Rattle.cli_sigs.specs.declared.signature.RowCounts.{RowCounts}
@@ -45,6 +45,10 @@ built_in code =
 -- the empty name, which stands behind the 52 of the core
 abbrev pub empty_name : NameId
 empty_name = record { 0 = 52 }
+
+-- the numbers of a file's definitions fit 32 bits
+abbrev pub AreNumbered : TypeRows → Type 0
+AreNumbered s = s.first_def + s.defs ≤ 2 ^ 32
 
 -- what stands for a row that doesn't exist, which is not so in a file that passes its checks
 abbrev pub nothing : Bool → Ty
