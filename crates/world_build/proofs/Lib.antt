@@ -1,9 +1,11 @@
 pub mod CoreFacts
 pub mod CoreNames
 pub mod Enclosing
+pub mod FullTypeNames
 pub mod Giving
 pub mod Inside
 pub mod NameLemmas
 pub mod Noted
 pub mod Passing
 pub mod Ranges
+pub mod RefNames
