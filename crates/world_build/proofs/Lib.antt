@@ -1,11 +1,15 @@
 pub mod CoreFacts
 pub mod CoreNames
 pub mod Enclosing
+pub mod Firsts
 pub mod FullTypeNames
 pub mod Giving
 pub mod Inside
 pub mod NameLemmas
 pub mod Noted
+pub mod Numbered
 pub mod Passing
+pub mod Placed
 pub mod Ranges
 pub mod RefNames
+pub mod Settled

@@ -68,7 +68,7 @@ fn full_name(
 
 /// The full names of the definitions in all rows of TypeDef, from the first row on. Each is made once, by a copy of the
 /// name around it. Takes memory and time in the length of these names, and in the rows of TypeDef and NestedClass.
-pub fn full_names(alloc: Global, tables: &Tables<'_>) -> Result<Items<Text>, Memory>
+pub(crate) fn full_names(alloc: Global, tables: &Tables<'_>) -> Result<Items<Text>, Memory>
     ensures { IfOk result (λ names. names ≡ map (spec.full_name tables.now) (rows_of tables.now 2)) }
 {
     let enclosing = enclosing_rows(alloc, tables)?;
