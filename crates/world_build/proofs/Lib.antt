@@ -1,6 +1,7 @@
 pub mod CoreFacts
 pub mod CoreNames
 pub mod Enclosing
+pub mod FileRows
 pub mod Firsts
 pub mod FullTypeNames
 pub mod Giving
@@ -13,3 +14,4 @@ pub mod Placed
 pub mod Ranges
 pub mod RefNames
 pub mod Settled
+pub mod Targets

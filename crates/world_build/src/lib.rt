@@ -19,6 +19,7 @@ mod row_rules;
 mod rows;
 mod text_numbers;
 mod type_rows;
+mod world_names;
 
 pub use cells::RowOf;
 pub use core_parts::{CoreParts, core_library};
@@ -37,6 +38,7 @@ pub use refusal::Refusal;
 pub use resolution::DefPlace;
 pub use rows::TYPE_DEF;
 pub use type_rows::{Target, TypeRows};
+pub use world_names::{WorldNames, name_files};
 
 #[cfg(test)]
 mod row_tests;
