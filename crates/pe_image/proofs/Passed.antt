@@ -5,7 +5,7 @@ use Rattle.clr_base.specs.declared.image_fault.ImageFault.{ImageFault}
 use Rattle.clr_base.specs.declared.image_fault.FaultKind.TheVariants.{NotPe}
 use Rattle.clr_base.specs.Checks.{Check, outcome}
 use Rattle.clr_base.proofs.Checks.{outcome_value, passes_at}
-use Rattle.pe_image.specs.Bodies.{body_by, body_of}
+use Rattle.pe_image.specs.Bodies.{body_range, range_by}
 use Rattle.pe_image.specs.Sections.{table_at}
 use Rattle.pe_image.specs.declared.locate.Places.{Places}
 use Rattle.pe_image.specs.Metadata.{metadata_checks, metadata_of, header_checks, has_section_table, places}
@@ -27,9 +27,9 @@ are_found bytes found e =
     let table = table_passes bytes found e in
     record { is = is; table = rw is (leb-true _ _ table) }
 
--- the body at an RVA, by the section table that `metadata` answered
-pub body_found : (bytes : List ℕ) (found : Places) (rva : ℕ) → metadata_of bytes ≡ Ok found
-    → body_of bytes rva ≡ body_by bytes (table_at bytes found.sections_at found.section_count) rva
+-- where the body at an RVA stands, by the section table that `metadata` answered
+pub range_found : (bytes : List ℕ) (found : Places) (rva : ℕ) → metadata_of bytes ≡ Ok found
+    → body_range bytes rva ≡ range_by bytes (table_at bytes found.sections_at found.section_count) rva
 unfolding places
-body_found bytes found rva e =
-    ap (λ (p : Places). body_by bytes (table_at bytes p.sections_at p.section_count) rva) (sym (are_found bytes found e).is)
+range_found bytes found rva e =
+    ap (λ (p : Places). range_by bytes (table_at bytes p.sections_at p.section_count) rva) (sym (are_found bytes found e).is)

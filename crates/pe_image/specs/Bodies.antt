@@ -2,6 +2,7 @@
 use Rattle.std.specs.Prelude.{ℕ, ◌+◌, ◌/◌, ◌%◌, List, ◌==◌, ◌&&◌, Option, None, Some, slice_index, slice_range, if◌then◌else◌}
 use Rattle.std.specs.Option.{option_and_then, option_map}
 use Rattle.clr_base.specs.LittleEndian.{u32_at, has_range}
+use Rattle.pe_image.specs.declared.bodies.BodyRange.{BodyRange}
 use Rattle.pe_image.specs.declared.sections.Section.{Section}
 use Rattle.pe_image.specs.Sections.{place_by, sections}
 
@@ -13,15 +14,23 @@ body_len bytes at =
     else if slice_index bytes at % 4 == 3 && has_range bytes at 12 then Some (12 + u32_at bytes (at + 4))
     else None
 
--- n bytes at an RVA, by a table of sections
-abbrev pub bytes_by : List ℕ → List Section → ℕ → ℕ → Option (List ℕ)
-bytes_by bytes table rva n = option_map (λ start. slice_range bytes start (start + n)) (place_by bytes table rva n)
+-- where n bytes at an RVA stand, by a table of sections
+abbrev pub range_at : List ℕ → List Section → ℕ → ℕ → Option BodyRange
+range_at bytes table rva n = option_map (λ start. record { start = start; len = n }) (place_by bytes table rva n)
 
--- the body at an RVA, by a table of sections: its first byte tells its length
-unfoldable pub body_by : List ℕ → List Section → ℕ → Option (List ℕ)
-body_by bytes table rva =
-    option_and_then (λ at. option_and_then (λ n. bytes_by bytes table rva n) (body_len bytes at)) (place_by bytes table rva 1)
+-- where the body at an RVA stands, by a table of sections: its first byte tells its length
+unfoldable pub range_by : List ℕ → List Section → ℕ → Option BodyRange
+range_by bytes table rva =
+    option_and_then (λ at. option_and_then (λ n. range_at bytes table rva n) (body_len bytes at)) (place_by bytes table rva 1)
+
+-- where the body at an RVA stands, where it is in the file
+abbrev pub body_range : List ℕ → ℕ → Option BodyRange
+body_range bytes rva = range_by bytes (sections bytes) rva
+
+-- the bytes of a range
+abbrev pub bytes_in : List ℕ → BodyRange → List ℕ
+bytes_in bytes range = slice_range bytes range.start (range.start + range.len)
 
 -- the body at an RVA, where it is in the file
 abbrev pub body_of : List ℕ → ℕ → Option (List ℕ)
-body_of bytes rva = body_by bytes (sections bytes) rva
+body_of bytes rva = option_map (bytes_in bytes) (body_range bytes rva)

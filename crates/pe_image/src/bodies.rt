@@ -2,7 +2,8 @@
 ghost use Rattle.std.specs.Prelude.{◌≡◌, ◌+◌, ◌*◌, ◌<◌, ◌≤◌, ◌^◌, length, Ok, Some, None, IfOk, IfErr, IfSome};
 ghost use Rattle.std.specs.Option.{option_copied};
 ghost use Rattle.clr_base.specs.declared.image_fault.FaultKind.TheVariants.{OutsideFile};
-ghost use Rattle.pe_image.specs.Bodies.{body_by, body_len, body_of};
+ghost use Rattle.pe_image.specs.Bodies as spec;
+ghost use Rattle.pe_image.specs.Bodies.{body_len, body_of, range_by};
 ghost use Rattle.pe_image.specs.Metadata.{metadata_of};
 ghost use Rattle.pe_image.specs.Sections.{table_at};
 
@@ -28,16 +29,43 @@ fn len_of_body(bytes: &[u8], at: usize) -> Option<u64>
     }
 }
 
-/// The body at an RVA, by the section table.
-#[tactic(auto, unfolding(crate::specs::Bodies::body_by))]
-fn find_body<'a>(bytes: &'a [u8], table: SectionTable, rva: u32) -> Option<&'a [u8]>
+/// Where the header and the code of a method body stand in the file.
+#[derive(Clone, Copy, Debug, PartialEq, Eq)]
+pub struct BodyRange {
+    /// The first byte, counted from the file's own.
+    pub start: usize,
+    /// How many bytes there are. They lie in the raw data of one section, whose length has 32 bits.
+    pub len: u32,
+}
+
+/// Where the body at an RVA stands, by the section table.
+#[tactic(auto, unfolding(crate::specs::Bodies::range_by))]
+fn find_range(bytes: &[u8], table: SectionTable, rva: u32) -> Option<BodyRange>
     requires { table.at + 40 * table.count ≤ length bytes.now }
-    ensures { option_copied result ≡ body_by bytes.now (table_at bytes.now table.at table.count) rva }
+    ensures exact { result ≡ range_by bytes.now (table_at bytes.now table.at table.count) rva }
+    ensures inside { IfSome result (λ range. range.start + range.len ≤ length bytes.now) }
 {
     let first = table.place_of(bytes, rva, 1)?;
     let len = len_of_body(bytes, first)?;
     let start = table.place_of(bytes, rva, len)?;
-    Some(&bytes[start..start + len as usize])
+    Some(BodyRange {
+        start,
+        len: len as u32,
+    })
+}
+
+/// Where the header and the code of the method body at an RVA stand. None where either leaves the file, and where the first
+/// byte begins no header. Takes no memory, and time in the number of sections.
+pub fn body_range(bytes: &[u8], places: &Places, rva: u32) -> Option<BodyRange>
+    requires { metadata_of bytes.now ≡ Ok places.now }
+    ensures exact { result ≡ spec.body_range bytes.now rva }
+    ensures inside { IfSome result (λ range. range.start + range.len ≤ length bytes.now) }
+{
+    let table = SectionTable {
+        at: places.sections_at as usize,
+        count: places.section_count,
+    };
+    find_range(bytes, table, rva)
 }
 
 /// The header and code of the method body at an RVA. `OutsideFile` with the RVA where either leaves the file, or where
@@ -48,12 +76,8 @@ pub fn body_at<'a>(bytes: &'a [u8], places: &Places, rva: u32) -> Result<&'a [u8
     ensures none { IfErr result (λ fault. body_of bytes.now rva ≡ None) }
     ensures fault { IfErr result (λ fault. fault ≡ record { kind = OutsideFile; place = rva }) }
 {
-    let table = SectionTable {
-        at: places.sections_at as usize,
-        count: places.section_count,
-    };
-    match find_body(bytes, table, rva) {
-        Some(body) => Ok(body),
+    match body_range(bytes, places, rva) {
+        Some(range) => Ok(&bytes[range.start..range.start + range.len as usize]),
         None => Err(ImageFault::new(FaultKind::OutsideFile, rva as usize)),
     }
 }

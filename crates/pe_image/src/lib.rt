@@ -6,7 +6,7 @@ mod headers;
 mod locate;
 mod sections;
 
-pub use bodies::body_at;
+pub use bodies::{BodyRange, body_at, body_range};
 pub use locate::{Places, metadata};
 
 #[cfg(test)]

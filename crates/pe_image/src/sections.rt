@@ -44,6 +44,7 @@ impl Section {
         requires short { len < 2 ^ 33 }
         ensures exact { result ≡ place_in bytes.now rva len self.now }
         ensures inside { IfSome result (λ at. at + len ≤ length bytes.now) }
+        ensures raw { IfSome result (λ _. len < 2 ^ 32) }
     {
         let offset = u64::from(rva - self.address);
         let place = u64::from(self.raw_at) + offset;
@@ -81,6 +82,7 @@ impl SectionTable {
         requires short { len < 2 ^ 33 }
         ensures exact { result ≡ place_by bytes.now (table_at bytes.now self.at self.count) rva len }
         ensures inside { IfSome result (λ at. at + len ≤ length bytes.now) }
+        ensures raw { IfSome result (λ _. len < 2 ^ 32) }
     {
         let section = self.section_of(bytes, rva)?;
         section.place_in(bytes, rva, len)

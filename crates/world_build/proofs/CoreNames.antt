@@ -122,7 +122,7 @@ def_named k few =
     ap (λ (n : ℕ). let id : NameId = record { 0 = n } in id)
     (ap (λ ns. number_in ns (text k)) names_are ∙ placed k less)
 
-member_small : (n : MemberName) → member_number n < 16
+pub member_small : (n : MemberName) → member_number n < 16
 member_small member.Ctor = omega arith
 member_small member.ToString = omega arith
 member_small member.Equals = omega arith

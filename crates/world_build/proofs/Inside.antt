@@ -25,7 +25,7 @@ placed true x at e = (refl, cc)
 placed false x at e = cc
 
 -- what a section places lies in the file
-inside_by : (bytes : List ℕ) (rva n : ℕ) (s : Option Section) (at : ℕ) → option_and_then (place_in bytes rva n) s ≡ Some at → at + n ≤ length bytes
+pub inside_by : (bytes : List ℕ) (rva n : ℕ) (s : Option Section) (at : ℕ) → option_and_then (place_in bytes rva n) s ≡ Some at → at + n ≤ length bytes
 inside_by bytes rva n None at e = cc
 inside_by bytes rva n (Some s) at e =
     let p = placed _ _ at e in

@@ -86,7 +86,7 @@ row_at m table row first last all =
     subst (λ r. first_fault (row_checks m table r) ≡ Ok (tt {0})) e (passed_at (row_count m.tables table) (row - 1) (λ r. row_checks m table (r + 1)) (omega arith) all)
 
 -- the table TypeDef is the second one that is checked
-type_defs_pass : (m : Metadata) → ArePassed m → first_fault (table_checks m 0x02) ≡ Ok (tt {0})
+pub type_defs_pass : (m : Metadata) → ArePassed m → first_fault (table_checks m 0x02) ≡ Ok (tt {0})
 unfolding rows_checks
 type_defs_pass m all = passed_at (length checked_tables) 1 (λ k. table_checks m (slice_index checked_tables k)) (omega arith) all
 

@@ -21,6 +21,10 @@ next n =
 pub map_more : {X : Type 0} (f : ℕ → X) (n : ℕ) → map f (range_with_len 0 (n + 1)) ≡ map f (range_with_len 0 n) ++ f n ∷ []
 map_more f n = map-range_with_len_more f 0 n n (omega arith)
 
+-- the same over rows, which count from 1
+pub rows_more : {X : Type 0} (f : ℕ → X) (n : ℕ) → map f (range_with_len 1 (n + 1)) ≡ map f (range_with_len 1 n) ++ f (n + 1) ∷ []
+rows_more f n = map-range_with_len_more f 1 n (n + 1) (omega arith)
+
 pub flat_map_more : {X : Type 0} (f : ℕ → List X) (n : ℕ)
     → flat_map f (range_with_len 0 (n + 1)) ≡ flat_map f (range_with_len 0 n) ++ f n
 flat_map_more f n =

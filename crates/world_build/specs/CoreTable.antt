@@ -49,6 +49,13 @@ number_of known.MulticastDelegate = 33
 number_of known.Nullable = 34
 number_of known.Console = 35
 
+-- how many definitions the core has, and how many methods
+abbrev pub core_defs : ℕ
+core_defs = 36
+
+abbrev pub core_methods : ℕ
+core_methods = 98
+
 abbrev pub def_id : CoreType → DefId
 def_id t = record { 0 = number_of t }
 

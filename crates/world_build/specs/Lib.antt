@@ -1,3 +1,4 @@
+pub mod Bodies
 pub mod Cells
 pub mod CoreLibrary
 pub mod CoreTable

@@ -18,13 +18,14 @@ use Rattle.world_build.specs.declared.member_table.MemberTable.{MemberTable}
 use Rattle.world_build.specs.declared.member_table.Run.{Run}
 use Rattle.world_build.specs.declared.type_rows.TypeRows.{TypeRows}
 use Rattle.world_build.specs.CoreLibrary as core
+use Rattle.world_build.specs.CoreTable.{core_methods}
 use Rattle.world_build.specs.Cells.{rows_of, at, run_len}
 use Rattle.world_build.specs.Members.{file_methods, file_generics, file_fields}
 use Rattle.world_build.specs.Resolution.{rows_before}
 use Rattle.world_build.specs.Trees.{tree, trees}
 use Rattle.world_build.specs.WorldNames.{file_names}
 
--- ---- the whole table; the core has 118 methods and no fields
+-- ---- the whole table; the core has no fields
 
 abbrev pub core_run : Def → Run
 core_run d = record { first_field = d.first_field; fields = d.fields; first_method = d.first_method; methods = d.methods }
@@ -34,7 +35,7 @@ unfoldable pub run_of : List Metadata → ℕ → Metadata → ℕ → Run
 run_of files k m row = record {
   first_field = rows_before files k 0x04 + (at m 0x02 row 4 - 1);
   fields = run_len m 4 0x04 row;
-  first_method = 118 + rows_before files k 0x06 + (at m 0x02 row 5 - 1);
+  first_method = core_methods + rows_before files k 0x06 + (at m 0x02 row 5 - 1);
   methods = run_len m 5 0x06 row;
 }
 

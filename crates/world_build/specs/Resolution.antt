@@ -8,7 +8,7 @@ use Rattle.cli_tables.specs.Metadata.{Metadata}
 use Rattle.world_build.specs.declared.cells.RowOf.{RowOf}
 use Rattle.world_build.specs.declared.resolution.DefPlace.{DefPlace}
 use Rattle.world_build.specs.declared.resolution.DefPlace.TheVariants.{InCore, InFile}
-use Rattle.world_build.specs.CoreTable.{def_text}
+use Rattle.world_build.specs.CoreTable.{core_defs, def_text}
 use Rattle.world_build.specs.Cells.{rows, rows_of, text}
 use Rattle.world_build.specs.Nesting.{enclosing_row}
 use Rattle.world_build.specs.TypeNames.{def_name, def_namespace, ref_name, ref_namespace, scope, most_scopes}
@@ -26,7 +26,7 @@ is_core_type namespace name k =
     bytes_eq (before_last (λ c. c == 46) (def_text k)) namespace && bytes_eq (after_last (λ c. c == 46) (def_text k)) name
 
 unfoldable pub core_type : List ℕ → List ℕ → Option ℕ
-core_type namespace name = find (is_core_type namespace name) (range_with_len 0 36)
+core_type namespace name = find (is_core_type namespace name) (range_with_len 0 core_defs)
 
 -- ---- files; they are counted from 0 here
 
@@ -34,9 +34,9 @@ core_type namespace name = find (is_core_type namespace name) (range_with_len 0 
 unfoldable pub rows_before : List Metadata → ℕ → ℕ → ℕ
 rows_before files k table = sum_by (λ m. rows m table) (take k files)
 
--- the number of the definition in a file's first TypeDef row; the core has 36 definitions
+-- the number of the definition in a file's first TypeDef row
 abbrev pub first_def : List Metadata → ℕ → ℕ
-first_def files k = 36 + rows_before files k 0x02
+first_def files k = core_defs + rows_before files k 0x02
 
 -- the first file whose assembly, by its first Assembly row (II.22.2), has a name
 abbrev pub has_name : List ℕ → Metadata → Bool

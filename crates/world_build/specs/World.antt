@@ -1,18 +1,16 @@
 -- The world of some files that no check refuses, before its roots.
-use Rattle.std.specs.Prelude.{ℕ, ◌+◌, List, [], ◌∷◌, ◌++◌, map, length, ◌==◌, Option, None, Some, unwrap_or, if◌then◌else◌}
+use Rattle.std.specs.Prelude.{ℕ, ◌+◌, List, [], ◌∷◌, ◌++◌, map, length, Option, None}
 use Rattle.std.proofs.Math.ListN.{replicate}
-use Rattle.std.specs.Option.{option_and_then, option_map}
 use Rattle.cli_tables.specs.Metadata.{Metadata}
-use Rattle.pe_image.specs.Bodies.{body_len}
-use Rattle.pe_image.specs.Sections.{place_of}
 use Rattle.type_tree.specs.declared.definition.Def.{Def}
 use Rattle.type_tree.specs.declared.parts.BodyPlace.{BodyPlace}
 use Rattle.type_tree.specs.declared.parts.WorldFile.{WorldFile}
 use Rattle.type_tree.specs.declared.parts.WorldParts.{WorldParts}
 use Rattle.world_build.specs.declared.core_type.CoreType.TheVariants as known
 use Rattle.world_build.specs.CoreLibrary as core
-use Rattle.world_build.specs.CoreTable.{def_id}
-use Rattle.world_build.specs.Cells.{rows, rows_of, at, loose}
+use Rattle.world_build.specs.CoreTable.{core_methods, def_id}
+use Rattle.world_build.specs.Bodies.{file_bodies}
+use Rattle.world_build.specs.Cells.{rows, rows_of, loose}
 use Rattle.world_build.specs.Definitions.{def_of}
 use Rattle.world_build.specs.Image.{metadata_in}
 use Rattle.world_build.specs.MemberTable.{member_table, of_each, run_of}
@@ -29,7 +27,7 @@ reader files k m = record {
   members = member_table files;
   types = type_rows files k m;
   tables = m;
-  first_method = 118 + rows_before files k 0x06;
+  first_method = core_methods + rows_before files k 0x06;
 }
 
 -- ---- definitions
@@ -37,23 +35,6 @@ reader files k m = record {
 unfoldable pub file_defs : List Metadata → ℕ → Metadata → List Def
 file_defs files k m =
     map (λ row. def_of (file_names files k m) m (k + 1) (run_of files k m row) (impls_of (reader files k m) row) row) (rows_of m 0x02)
-
--- ---- bodies
-
--- a body at an RVA, where its header and code lie in the file; none has a length of 0
-abbrev pub body_range : List ℕ → ℕ → ℕ → Option BodyPlace
-body_range bytes k rva =
-    option_and_then (λ at. option_and_then (λ n. option_map (λ start. record { file = k + 1; start = start; len = n }) (place_of bytes rva n)) (body_len bytes at))
-    (place_of bytes rva 1)
-
--- the place of the body of a method, none where its RVA is 0; a body that is refused has no bytes
-unfoldable pub body_of : List ℕ → ℕ → Metadata → ℕ → Option BodyPlace
-body_of bytes k m row =
-    if at m 0x06 row 0 == 0 then None
-    else Some (unwrap_or (body_range bytes k (at m 0x06 row 0)) (record { file = k + 1; start = 0; len = 0 }))
-
-unfoldable pub file_bodies : List ℕ → ℕ → Metadata → List (Option BodyPlace)
-file_bodies bytes k m = map (body_of bytes k m) (rows_of m 0x06)
 
 -- ---- files
 
@@ -66,7 +47,7 @@ world_file files bytes k m = record {
   first_field = record { 0 = rows_before files k 0x04 };
   fields = rows m 0x04;
   loose_fields = loose m 4 0x04;
-  first_method = record { 0 = 118 + rows_before files k 0x06 };
+  first_method = record { 0 = core_methods + rows_before files k 0x06 };
   methods = rows m 0x06;
   loose_methods = loose m 5 0x06;
   member_refs = map (member_ref (reader files k m)) (rows_of m 0x0A);
@@ -94,7 +75,7 @@ world files = record {
   names = names (tables_in files);
   defs = core.defs ++ of_each (file_defs (tables_in files)) (tables_in files);
   methods = (member_table (tables_in files)).methods;
-  bodies = replicate (length core.methods) no_body ++ of_bytes file_bodies 0 files;
+  bodies = replicate (length core.methods) no_body ++ of_bytes (λ b k m. file_bodies b (k + 1) m) 0 files;
   fields = (member_table (tables_in files)).fields;
   sigs = well_known ++ of_each (λ k m. file_keys (reader (tables_in files) k m)) (tables_in files);
   roots = [];

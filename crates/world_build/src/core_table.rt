@@ -214,13 +214,13 @@ pub static CORE_DEFS: [CoreDef; DEF_COUNT] = [
     // 13 UInt64
     core_def!(Value, ValueType, Comparable),
     // 14 IntPtr
-    core_def!(Value, ValueType, Comparable),
+    core_def!(Value, ValueType),
     // 15 UIntPtr
-    core_def!(Value, ValueType, Comparable),
+    core_def!(Value, ValueType),
     // 16 Single
-    core_def!(Value, ValueType, Comparable),
+    core_def!(Value, ValueType),
     // 17 Double
-    core_def!(Value, ValueType, Comparable),
+    core_def!(Value, ValueType),
     // 18 String
     core_def!(Sealed, Object, Comparable),
     // 19 Array
@@ -353,13 +353,13 @@ pub static CORE_METHODS: [&[CoreMethod]; DEF_COUNT] = [
     // 13 UInt64
     comparable!(UInt64),
     // 14 IntPtr
-    comparable!(IntPtr),
+    &[],
     // 15 UIntPtr
-    comparable!(UIntPtr),
+    &[],
     // 16 Single
-    comparable!(Single),
+    &[],
     // 17 Double
-    comparable!(Double),
+    &[],
     // 18 String
     comparable!(
         String,

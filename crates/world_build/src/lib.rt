@@ -1,6 +1,7 @@
 //! The world builder: the core library and files become definitions, members, signatures and roots.
 #![tactic(auto)]
 
+mod bodies;
 mod cells;
 mod core_parts;
 mod core_table;
@@ -21,6 +22,7 @@ mod text_numbers;
 mod type_rows;
 mod world_names;
 
+pub use bodies::file_bodies;
 pub use cells::RowOf;
 pub use core_parts::{CoreParts, core_library};
 pub use core_table::{

@@ -23,10 +23,10 @@ const DEFINITIONS: [&str; 36] = [
     "0x100 System.UInt32 System.ValueType *",
     "0x100 System.Int64 System.ValueType *",
     "0x100 System.UInt64 System.ValueType *",
-    "0x100 System.IntPtr System.ValueType *",
-    "0x100 System.UIntPtr System.ValueType *",
-    "0x100 System.Single System.ValueType *",
-    "0x100 System.Double System.ValueType *",
+    "0x100 System.IntPtr System.ValueType",
+    "0x100 System.UIntPtr System.ValueType",
+    "0x100 System.Single System.ValueType",
+    "0x100 System.Double System.ValueType",
     "0x100 System.String System.Object *",
     "0x80 System.Array System.Object",
     "0x100 System.Type System.Object",
@@ -215,7 +215,7 @@ fn method_line(alloc: Global, names: &Items<Text>, method: &Method) -> Result<St
 /// The lines that are wanted of the methods of a definition.
 fn wanted_lines(alloc: Global, number: u32, own: &str) -> Result<Vec<String>, Memory> {
     let mut lines = Vec::new(alloc);
-    if 4 <= number && number <= 18 {
+    if (4 <= number && number <= 13) || number == 18 {
         for (start, ends_with_own) in OF_COMPARABLE {
             let mut line = String::from_str(alloc, start)?;
             if ends_with_own {
@@ -251,8 +251,8 @@ fn methods_of_the_core(rt: HostRuntime) -> Result<(), Fail> {
             next = next.wrapping_add(1);
         }
     }
-    assert_eq!(rt; next, 118);
-    assert_eq!(rt; parts.methods.len(), 118);
+    assert_eq!(rt; next, 98);
+    assert_eq!(rt; parts.methods.len(), 98);
     Ok(())
 }
 

@@ -1,0 +1,84 @@
+//! Where the bodies of a file's methods stand (ECMA-335 II.22.26, II.25.4).
+ghost use Rattle.std.specs.Prelude.{◌≡◌, ◌≤◌, IfOk};
+ghost use Rattle.cli_tables.specs.Layout.{row_count};
+ghost use Rattle.pe_image.specs.Metadata.{metadata_of};
+ghost use Rattle.world_build.specs.Bodies as spec;
+
+use crate::rows::METHOD_DEF;
+use cli_tables::Tables;
+use clr_base::{ImageFault, Memory};
+use pe_image::{BodyRange, Places, body_range, metadata};
+use sqlite_items::Items;
+use std::alloc::Global;
+use type_tree::BodyPlace;
+
+/// The column RVA of MethodDef (II.22.26).
+const RVA: u8 = 0;
+
+/// Where a body stands in the file with a number, from 1. One that is refused has no bytes.
+fn place_in(file: u32, range: Option<BodyRange>) -> BodyPlace
+    ensures { result ≡ spec.place_in file range }
+{
+    match range {
+        Some(range) => BodyPlace {
+            file,
+            start: range.start as u64,
+            len: range.len,
+        },
+        None => BodyPlace {
+            file,
+            start: 0,
+            len: 0,
+        },
+    }
+}
+
+/// The body at an RVA; there is none in a file whose headers fail, which is not read.
+fn range_if(bytes: &[u8], headers: &Result<Places, ImageFault>, rva: u32) -> Option<BodyRange>
+    requires { headers.now ≡ metadata_of bytes.now }
+    ensures { result ≡ spec.range_if (metadata_of bytes.now) bytes.now rva }
+{
+    match headers {
+        Ok(places) => body_range(bytes, places, rva),
+        Err(_) => None,
+    }
+}
+
+/// The place of the body of the method in a row, none where its RVA is 0.
+#[tactic(auto, unfolding(crate::specs::Bodies::body_of, cli_tables::specs::Schema::columns))]
+fn body_of(
+    bytes: &[u8],
+    headers: &Result<Places, ImageFault>,
+    file: u32,
+    tables: &Tables<'_>,
+    row: u32,
+) -> Option<BodyPlace>
+    requires headers { headers.now ≡ metadata_of bytes.now }
+    requires first { 1 ≤ row }
+    requires last { row ≤ row_count tables.now.tables 6 }
+    ensures { result ≡ spec.body_of bytes.now file tables.now row }
+{
+    let rva = tables.cell(METHOD_DEF, row, RVA);
+    if rva == 0 {
+        return None;
+    }
+    Some(place_in(file, range_if(bytes, headers, rva)))
+}
+
+/// The places of the bodies of all methods of the file with a number, from 1, row by row.
+#[tactic(auto, unfolding(crate::specs::Bodies::file_bodies), using(crate::proofs::Ranges::rows_more))]
+pub fn file_bodies(
+    alloc: Global,
+    bytes: &[u8],
+    file: u32,
+    tables: &Tables<'_>,
+) -> Result<Items<Option<BodyPlace>>, Memory>
+    ensures { IfOk result (λ bodies. bodies ≡ spec.file_bodies bytes.now file tables.now) }
+{
+    let headers = metadata(bytes);
+    let mut bodies = Items::new(alloc);
+    for row in 0..tables.row_count(METHOD_DEF) {
+        bodies.push(body_of(bytes, &headers, file, tables, row + 1))?;
+    }
+    Ok(bodies)
+}
