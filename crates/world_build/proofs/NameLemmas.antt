@@ -1,16 +1,22 @@
 -- Strings and their texts.
-use Rattle.std.proofs.Common.{◌≡◌, ℕ, ◌+◌, Bool, true, false, ◌||◌, List, [], ◌∷◌, ◌++◌, map, length, Some, None, refl, sym, ap, ◌∙◌, cond, if◌then◌else◌}
+use Rattle.std.proofs.Common.{◌≡◌, ℕ, ◌+◌, ◌≤◌, arith, Bool, true, false, ◌||◌, List, [], ◌∷◌, ◌++◌, map, length, Some, None, refl, sym, ap, ◌∙◌, cond, if◌then◌else◌}
 use Rattle.std.specs.Prelude.{String, string_bytes, not, nat_lt}
 use Rattle.std.specs.String.{string_eq}
 use Rattle.std.specs.List.{list_any, position, position_or_len}
 use Rattle.std.specs.Str.{bytes_eq}
+use Rattle.std.proofs.lemmas.Bool.{ltb-false}
 use Rattle.std.proofs.lemmas.List.{map-append}
+use Rattle.std.proofs.lemmas.List.Sums.{prefix_len-le-length}
 use Rattle.indexmap.specs.IndexSet.{insert_key}
 use Rattle.world_build.specs.Names.{with_one, number_in}
 
 at_place : (b : Bool) (n i : ℕ) → Some i ≡ cond b (Some n) None → i ≡ n
 at_place true n i e = cc
 at_place false n i e = absurd cc
+
+past_all : (b : Bool) (i : ℕ) → None ≡ cond b (Some i) None → b ≡ false
+past_all true i e = absurd cc
+past_all false i e = refl
 
 module _ {Z : Type 0} where
   -- whether a string has a text
@@ -29,6 +35,15 @@ module _ {Z : Type 0} where
   pub found : (t : List ℕ) (ks : List (String Z)) (i : ℕ) → Some i ≡ position (is_text t) ks → i ≡ number_in (map string_bytes ks) t
   found t ks i e =
       at_place (nat_lt (position_or_len (is_text t) ks) (length ks)) (position_or_len (is_text t) ks) i e ∙ placed t ks
+
+  -- where a text isn't there, it has the number of the next one
+  pub absent : (t : List ℕ) (ks : List (String Z)) (n : ℕ) → None ≡ position (is_text t) ks → n ≡ length ks → n ≡ number_in (map string_bytes ks) t
+  absent t ks n none is =
+      let at : ℕ = position_or_len (is_text t) ks in
+      let past : length ks ≤ at = ltb-false at (length ks) (past_all (nat_lt at (length ks)) at none) in
+      let within : at ≤ length ks = prefix_len-le-length (λ k. not (is_text t k)) ks in
+      let last : n ≡ at = omega arith in
+      last ∙ placed t ks
 
   chosen : (b : Bool) (ks : List (String Z)) (k : String Z)
       → map string_bytes (if b then ks else ks ++ k ∷ []) ≡ (if b then map string_bytes ks else map string_bytes ks ++ string_bytes k ∷ [])

@@ -8,6 +8,7 @@ pub mod MemberTable
 pub mod Members
 pub mod Names
 pub mod Nesting
+pub mod Numbering
 pub mod References
 pub mod Refusals
 pub mod Resolution

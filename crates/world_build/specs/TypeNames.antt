@@ -1,9 +1,9 @@
 -- The names of types in a file: their definitions (ECMA-335 II.22.37) and their references (II.22.38).
-use Rattle.std.specs.Prelude.{ℕ, zero, suc, List, [], ◌++◌, codes, ◌==◌, not, Bool, true, Option, None, Some, is_some, if◌then◌else◌}
+use Rattle.std.specs.Prelude.{ℕ, zero, suc, List, [], ◌++◌, codes, ◌==◌, ◌&&◌, nat_le, not, Bool, true, Option, None, Some, is_some, if◌then◌else◌}
 use Rattle.cli_tables.specs.declared.schema.CodedIndex.TheVariants.{ResolutionScope}
 use Rattle.cli_tables.specs.Metadata.{Metadata}
 use Rattle.world_build.specs.declared.cells.RowOf.{RowOf}
-use Rattle.world_build.specs.Cells.{at, text, coded}
+use Rattle.world_build.specs.Cells.{at, rows, text, coded}
 use Rattle.world_build.specs.Nesting.{enclosing_row}
 
 -- a namespace and its dot, nothing where it is empty
@@ -46,13 +46,13 @@ ref_namespace m row = text m 0x01 row 2
 abbrev pub scope : Metadata → ℕ → Option RowOf
 scope m row = coded ResolutionScope (at m 0x01 row 0)
 
--- the reference that a scope is, 0 where it is none
-abbrev pub outer_of : Option RowOf → ℕ
-outer_of None = 0
-outer_of (Some s) = if s.table == 0x01 then s.row else 0
+-- the reference that a scope is, 0 where it is none of the rows that there are
+abbrev pub outer_of : ℕ → Option RowOf → ℕ
+outer_of count None = 0
+outer_of count (Some s) = if s.table == 0x01 && nat_le s.row count then s.row else 0
 
 abbrev pub outer : Metadata → ℕ → ℕ
-outer m row = outer_of (scope m row)
+outer m row = outer_of (rows m 0x01) (scope m row)
 
 -- the most scopes that one goes through, the last one counted
 abbrev pub most_scopes : ℕ

@@ -52,3 +52,7 @@ file_names files k m = record {
   fields = map (λ row. name_id files (text m 0x04 row 1)) (rows_of m 0x04);
   methods = map (λ row. name_id files (text m 0x06 row 3)) (rows_of m 0x06);
 }
+
+-- of all files
+unfoldable pub all_file_names : List Metadata → List FileNames
+all_file_names files = map (λ f. file_names files f.0 f.1) (enumerate_from 0 files)

@@ -62,6 +62,18 @@ impl Names {
         Ok(NameId(index as u32))
     }
 
+    /// The number of a text, which is how many names there are where it isn't among them. Takes no memory, and time in the
+    /// text's length, however many names there are.
+    pub fn find(&self, text: &str) -> NameId
+        requires { length self.now < 4294967296 }
+        ensures { result ≡ record { 0 = number_in self.now text.now } }
+    {
+        match self.set.get_index_of(text) {
+            Some(index) => NameId(index as u32),
+            None => NameId(self.set.len() as u32),
+        }
+    }
+
     /// The texts, each at its number.
     pub fn texts(&self, alloc: Global) -> Result<Items<Text>, Memory>
         ensures { IfOk result (λ texts. texts ≡ self.now) }
