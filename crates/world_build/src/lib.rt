@@ -42,6 +42,8 @@ pub use rows::TYPE_DEF;
 pub use type_rows::{Target, TypeRows};
 
 #[cfg(test)]
+mod definition_tests;
+#[cfg(test)]
 mod row_tests;
 #[cfg(test)]
 mod tests;
