@@ -52,6 +52,8 @@ pub use type_rows::{Target, TypeRows};
 pub use world_names::{WorldNames, name_files};
 
 #[cfg(test)]
+mod definition_tests;
+#[cfg(test)]
 mod row_tests;
 #[cfg(test)]
 mod tests;

@@ -26,7 +26,7 @@ fn long(value: usize) -> [u8; 4] {
 }
 
 /// The tables Module, of one row, and TypeDef, of three, and one more behind them.
-fn stream(alloc: Global, table: u8, count: usize, rows: &[u8]) -> Result<Vec<u8>, AllocError> {
+pub(crate) fn stream(alloc: Global, table: u8, count: usize, rows: &[u8]) -> Result<Vec<u8>, AllocError> {
     let mut tables = Vec::from_slice(alloc, HEADER)?;
     let valid = 5 | 1u64.checked_shl(u32::from(table)).unwrap_or(0);
     tables.extend_from_slice(&valid.to_le_bytes())?;
@@ -38,7 +38,7 @@ fn stream(alloc: Global, table: u8, count: usize, rows: &[u8]) -> Result<Vec<u8>
 }
 
 /// The metadata of these tables.
-fn metadata_of(alloc: Global, tables: &[u8]) -> Result<Vec<u8>, AllocError> {
+pub(crate) fn metadata_of(alloc: Global, tables: &[u8]) -> Result<Vec<u8>, AllocError> {
     let mut meta = Vec::from_slice(alloc, ROOT)?;
     meta.extend_from_slice(b"\x40\0\0\0")?;
     meta.extend_from_slice(&long(tables.len()))?;
@@ -61,7 +61,7 @@ fn metadata(alloc: Global, nested: &[(u16, u16)]) -> Result<Vec<u8>, AllocError>
 }
 
 /// Writes bytes at a place, as far as there is room.
-fn put(bytes: &mut [u8], at: usize, piece: &[u8]) {
+pub(crate) fn put(bytes: &mut [u8], at: usize, piece: &[u8]) {
     for (k, byte) in piece.iter().enumerate() {
         if let Some(place) = bytes.get_mut(at.saturating_add(k)) {
             *place = *byte;
