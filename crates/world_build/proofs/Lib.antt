@@ -3,7 +3,7 @@ pub mod CoreNames
 pub mod Enclosing
 pub mod Giving
 pub mod Inside
-pub mod MemberCells
+pub mod MemberLists
 pub mod NameLemmas
 pub mod Noted
 pub mod Passing
