@@ -12,6 +12,7 @@ pub mod Giving
 pub mod Inside
 pub mod ListFacts
 pub mod MemberCells
+pub mod MemberLists
 pub mod MembersFit
 pub mod NameLemmas
 pub mod NamesCount

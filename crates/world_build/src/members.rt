@@ -2,10 +2,15 @@
 ghost use Rattle.std.specs.Prelude.{◌≡◌, ◌-◌, ◌≤◌, get_or, IfOk};
 ghost use Rattle.cli_tables.specs.Layout.{row_count};
 ghost use Rattle.world_build.specs.Members as spec;
+ghost use Rattle.world_build.specs.RowIndexes.{AreFileRows};
 ghost use Rattle.world_build.specs.Trees.{AreNumbered, empty_name};
 
 use crate::cells::blob;
+use crate::definitions::place_of;
 use crate::file_names::FileNames;
+use crate::file_rows::FileRows;
+use crate::formals::{formals_of, method_owner};
+use crate::owners::owners;
 use crate::rows::METHOD_DEF;
 use crate::trees::{EMPTY_NAME, row_counts, tree, trees, value_or};
 use crate::type_rows::TypeRows;
@@ -14,10 +19,14 @@ use cli_tables::Tables;
 use clr_base::{DefId, Memory, NameId};
 use sqlite_items::{Items, at};
 use std::alloc::Global;
-use type_tree::{Field, Formal, Method};
+use type_tree::{Field, Method};
 
 /// The table Field (II.22.15).
 const FIELD: u8 = 0x04;
+
+/// The columns of TypeDef (II.22.37) with the first rows of a definition's fields and methods.
+const FIELD_LIST: u8 = 4;
+const METHOD_LIST: u8 = 5;
 
 /// The columns of MethodDef (II.22.26) that tell of its flags and its signature.
 const METHOD_FLAGS: u8 = 2;
@@ -26,6 +35,17 @@ const METHOD_SIGNATURE: u8 = 4;
 /// The columns of Field that tell of its flags and its signature.
 const FIELD_FLAGS: u8 = 0;
 const FIELD_SIGNATURE: u8 = 2;
+
+/// The members that a file's rows are.
+#[derive(Debug, Drop)]
+pub struct FileMembers {
+    /// The methods in its MethodDef rows.
+    pub methods: Items<Method>,
+    /// How many generic parameters the signature of each of them tells.
+    pub generics: Items<u32>,
+    /// The fields in its Field rows.
+    pub fields: Items<Field>,
+}
 
 /// What stands for a method's signature where the blob is none.
 fn no_method(alloc: Global) -> SigMethod
@@ -41,7 +61,7 @@ fn no_method(alloc: Global) -> SigMethod
 }
 
 /// What the blob of a MethodDef row says.
-#[tactic(auto, unfolding(crate::specs::Members::method_sig))]
+#[tactic(auto, unfolding(crate::specs::Members::method_sig, cli_tables::specs::Schema::columns))]
 fn method_sig(alloc: Global, tables: &Tables<'_>, row: u32) -> Result<SigMethod, Memory>
     requires first { 1 ≤ row }
     requires last { row ≤ row_count tables.now.tables 0x06 }
@@ -53,7 +73,7 @@ fn method_sig(alloc: Global, tables: &Tables<'_>, row: u32) -> Result<SigMethod,
 }
 
 /// What the blob of a Field row says.
-#[tactic(auto, unfolding(crate::specs::Members::field_sig))]
+#[tactic(auto, unfolding(crate::specs::Members::field_sig, cli_tables::specs::Schema::columns))]
 fn field_sig(alloc: Global, tables: &Tables<'_>, row: u32) -> Result<SigTy, Memory>
     requires first { 1 ≤ row }
     requires last { row ≤ row_count tables.now.tables 0x04 }
@@ -84,52 +104,55 @@ fn owner_id(types: &TypeRows, def: u32) -> DefId
     }
 }
 
-/// The method in a row, of the definition in a TypeDef row or of none, which is 0, by its signature and with its generic
-/// parameters.
-#[tactic(auto, unfolding(crate::specs::Members::method_of))]
+/// The method in a row, of the definition in a TypeDef row or of none, which is 0, by its signature.
+#[tactic(auto, unfolding(crate::specs::Members::method_of, cli_tables::specs::Schema::columns))]
 fn method_of(
     alloc: Global,
     names: &FileNames,
     tables: &Tables<'_>,
+    rows: &FileRows,
+    sig: &SigMethod,
     def: u32,
     row: u32,
-    sig: &SigMethod,
-    formals: Items<Formal>,
 ) -> Result<Method, Memory>
     requires numbered { AreNumbered names.now.types }
     requires first { 1 ≤ row }
     requires last { row ≤ row_count tables.now.tables 0x06 }
+    requires few { row ≤ 16777215 }
+    requires rows { AreFileRows tables.now rows.now }
     requires sig { sig.now ≡ spec.method_sig tables.now row }
-    requires formals { formals ≡ spec.formals_of names.now.types tables.now (spec.method_owner row) }
     ensures { IfOk result (λ method. method ≡ spec.method_of names.now tables.now def row) }
 {
+    let types = &names.types;
     let flags = tables.cell(METHOD_DEF, row, METHOD_FLAGS);
+    let owner = method_owner(row);
+    let formals = formals_of(alloc, types, tables, &rows.params, &rows.constraints, owner)?;
     Ok(Method {
         name: name_at(names.methods.as_slice(), row),
-        def: owner_id(&names.types, def),
+        def: owner_id(types, def),
         flags,
         has_this: sig.has_this,
         vararg: sig.vararg,
         formals,
-        ret: tree(alloc, &names.types, &sig.ret)?,
-        params: trees(alloc, &names.types, sig.params.as_slice())?,
+        ret: tree(alloc, types, &sig.ret)?,
+        params: trees(alloc, types, sig.params.as_slice())?,
     })
 }
 
-/// The field in a row, of the definition in a TypeDef row or of none, which is 0, with its offset.
-#[tactic(auto, unfolding(crate::specs::Members::field_of))]
+/// The field in a row, of the definition in a TypeDef row or of none, which is 0.
+#[tactic(auto, unfolding(crate::specs::Members::field_of, cli_tables::specs::Schema::columns))]
 fn field_of(
     alloc: Global,
     names: &FileNames,
     tables: &Tables<'_>,
+    rows: &FileRows,
     def: u32,
     row: u32,
-    place: Option<u32>,
 ) -> Result<Field, Memory>
     requires numbered { AreNumbered names.now.types }
     requires first { 1 ≤ row }
     requires last { row ≤ row_count tables.now.tables 0x04 }
-    requires place { place ≡ spec.place_of tables.now row }
+    requires rows { AreFileRows tables.now rows.now }
     ensures { IfOk result (λ field. field ≡ spec.field_of names.now tables.now def row) }
 {
     let sig = field_sig(alloc, tables, row)?;
@@ -138,6 +161,74 @@ fn field_of(
         def: owner_id(&names.types, def),
         flags: tables.cell(FIELD, row, FIELD_FLAGS),
         ty: tree(alloc, &names.types, &sig)?,
-        place,
+        place: place_of(tables, &rows.field_layouts, row),
+    })
+}
+
+/// The methods of a file, and how many generic parameters their signatures tell.
+#[tactic(auto, unfolding(crate::specs::Members::file_methods, crate::specs::Members::file_generics, cli_tables::specs::Schema::columns))]
+fn file_methods(
+    alloc: Global,
+    names: &FileNames,
+    tables: &Tables<'_>,
+    rows: &FileRows,
+) -> Result<(Items<Method>, Items<u32>), Memory>
+    requires numbered { AreNumbered names.now.types }
+    requires rows { AreFileRows tables.now rows.now }
+    ensures methods { IfOk result (λ found. found.0 ≡ spec.file_methods names.now tables.now) }
+    ensures generics { IfOk result (λ found. found.1 ≡ spec.file_generics tables.now) }
+{
+    let owners = owners(alloc, tables, METHOD_LIST, METHOD_DEF)?;
+    let mut methods = Items::new(alloc);
+    let mut generics = Items::new(alloc);
+    for row in 0..tables.row_count(METHOD_DEF) {
+        let sig = method_sig(alloc, tables, row + 1)?;
+        let def = owners.as_slice()[row as usize];
+        methods.push(method_of(alloc, names, tables, rows, &sig, def, row + 1)?)?;
+        generics.push(sig.generic)?;
+    }
+    Ok((methods, generics))
+}
+
+/// The fields of a file.
+#[tactic(auto, unfolding(crate::specs::Members::file_fields, cli_tables::specs::Schema::columns))]
+fn file_fields(
+    alloc: Global,
+    names: &FileNames,
+    tables: &Tables<'_>,
+    rows: &FileRows,
+) -> Result<Items<Field>, Memory>
+    requires numbered { AreNumbered names.now.types }
+    requires rows { AreFileRows tables.now rows.now }
+    ensures { IfOk result (λ fields. fields ≡ spec.file_fields names.now tables.now) }
+{
+    let owners = owners(alloc, tables, FIELD_LIST, FIELD)?;
+    let mut fields = Items::new(alloc);
+    for row in 0..tables.row_count(FIELD) {
+        let def = owners.as_slice()[row as usize];
+        fields.push(field_of(alloc, names, tables, rows, def, row + 1)?)?;
+    }
+    Ok(fields)
+}
+
+/// The methods and the fields of a file, each row's at its place. Each signature is read once. Takes memory and time in
+/// the rows of the file and in their signatures.
+pub fn file_members(
+    alloc: Global,
+    names: &FileNames,
+    tables: &Tables<'_>,
+    rows: &FileRows,
+) -> Result<FileMembers, Memory>
+    requires numbered { AreNumbered names.now.types }
+    requires rows { AreFileRows tables.now rows.now }
+    ensures methods { IfOk result (λ found. found.methods ≡ spec.file_methods names.now tables.now) }
+    ensures generics { IfOk result (λ found. found.generics ≡ spec.file_generics tables.now) }
+    ensures fields { IfOk result (λ found. found.fields ≡ spec.file_fields names.now tables.now) }
+{
+    let (methods, generics) = file_methods(alloc, names, tables, rows)?;
+    Ok(FileMembers {
+        methods,
+        generics,
+        fields: file_fields(alloc, names, tables, rows)?,
     })
 }

@@ -1,6 +1,0 @@
-use Rattle.std.proofs.Common.{arith}
-use Rattle.world_build.proofs.MemberCells.{field_cell}
-use Rattle.world_build.proofs.members.field_of.Goals as goal
-
-pub cell-requires : goal.cell-requires
-cell-requires c = field_cell c.args.tables.now.tables c.args.row _ c.requires.first c.requires.last (omega arith)

@@ -1,6 +1,0 @@
-use Rattle.std.proofs.Common.{arith}
-use Rattle.world_build.proofs.MemberCells.{method_cell}
-use Rattle.world_build.proofs.members.method_of.Goals as goal
-
-pub cell-flags-requires : goal.cell-flags-requires
-cell-flags-requires c = method_cell c.args.tables.now.tables c.args.row _ c.requires.first c.requires.last (omega arith)
