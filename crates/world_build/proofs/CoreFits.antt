@@ -80,10 +80,10 @@ module _ (c : Counts) (names : 52 < c.names) (many : core_defs ≤ c.defs) (more
       let run : is_within (methods_before k) (length (method_rows k)) c.methods ≡ true = le-leb _ _ (omega (arith, leb-true _ _ (runs_end k few), more)) in
       both _ _
       (both _ _
-        (both _ _
-          (both _ _ (both _ _ (both _ _ named (le-leb 0 c.files (omega arith))) (both _ _ (le-leb 0 c.fields (omega arith)) run)) (parent_fits_of (row k).parent))
-          (formals_fit_of (row k).formal))
-        (interfaces_fit (row k).is_comparable (record { 0 = k }) (omega (arith, few, many))))
+      (both _ _
+      (both _ _ (both _ _ (both _ _ named (le-leb 0 c.files (omega arith))) (both _ _ (le-leb 0 c.fields (omega arith)) run)) (parent_fits_of (row k).parent))
+      (formals_fit_of (row k).formal))
+      (interfaces_fit (row k).is_comparable (record { 0 = k }) (omega (arith, few, many))))
       refl
 
   pub defs_fit_all : list_all (def_fits c) defs ≡ true

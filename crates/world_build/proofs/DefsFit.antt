@@ -54,14 +54,14 @@ module _ (c : Counts) where
   def_of_fits n m file run impls row ok there run_fits impl_fit =
       both _ _
       (both _ _
-        (both _ _
-          (both _ _
-            (both _ _
-              (both _ _ (all_at_or (name_fits c) n.defs (row - 1) empty_name ok.defs (lt-ltb 52 c.names ok.types.empty)) there)
-              (both _ _ run_fits.fields run_fits.methods))
-            (parent_of_fits n.types m row ok.types))
-          (formals_of_fit c n.types m (type_owner row) ok.types))
-        (interfaces_fit n.types m row ok.types))
+      (both _ _
+      (both _ _
+      (both _ _
+      (both _ _ (all_at_or (name_fits c) n.defs (row - 1) empty_name ok.defs (lt-ltb 52 c.names ok.types.empty)) there)
+      (both _ _ run_fits.fields run_fits.methods))
+      (parent_of_fits n.types m row ok.types))
+      (formals_of_fit c n.types m (type_owner row) ok.types))
+      (interfaces_fit n.types m row ok.types))
       impl_fit
 
 -- ---- signatures
@@ -95,12 +95,12 @@ module _ (c : Counts) (w : Reader) (ok : ReaderFits c w) where
   member_keys_fit =
       all_of_both (key_fits c) _ _
       (all_of_both (key_fits c) _ _
-        (all_of_both (key_fits c) _ _
-          (all_of_map (key_fits c) (λ row. Tree (owner_type w.types (owner_of w.tables 4 0x04 row))) (rows_of w.tables 0x04)
-            (λ row. owner_type_fits c w ok (owner_of w.tables 4 0x04 row)))
-          (all_of_map (key_fits c) (λ row. Tree (owner_type w.types (owner_of w.tables 5 0x06 row))) (rows_of w.tables 0x06)
-            (λ row. owner_type_fits c w ok (owner_of w.tables 5 0x06 row))))
-        (all_of_map (key_fits c) (λ row. Tree (ref_owner w row)) (rows_of w.tables 0x0A) (ref_owner_fits c w ok)))
+      (all_of_both (key_fits c) _ _
+      (all_of_map (key_fits c) (λ row. Tree (owner_type w.types (owner_of w.tables 4 0x04 row))) (rows_of w.tables 0x04)
+      (λ row. owner_type_fits c w ok (owner_of w.tables 4 0x04 row)))
+      (all_of_map (key_fits c) (λ row. Tree (owner_type w.types (owner_of w.tables 5 0x06 row))) (rows_of w.tables 0x06)
+      (λ row. owner_type_fits c w ok (owner_of w.tables 5 0x06 row))))
+      (all_of_map (key_fits c) (λ row. Tree (ref_owner w row)) (rows_of w.tables 0x0A) (ref_owner_fits c w ok)))
       (all_of_map (key_fits c) (spec_key w) (rows_of w.tables 0x2B) (spec_key_fits c w ok))
 
   local_keys_by : (rows : List ℕ) → keys_fit c (flat_map (λ row. map (λ t. Tree (tree w.types t)) (listed (locals_in w.tables row))) rows) ≡ true
@@ -118,5 +118,5 @@ module _ (c : Counts) (w : Reader) (ok : ReaderFits c w) where
   file_keys_fit =
       all_of_both (key_fits c) _ _
       (all_of_both (key_fits c) _ _ (all_of_both (key_fits c) _ _ (keys_of_types (row_types w) row_types_fit) (keys_of_arrays (row_types w) row_types_fit))
-        member_keys_fit)
+      member_keys_fit)
       local_keys_fit

@@ -68,7 +68,7 @@ module _ (files : List Metadata) (k : ℕ) (m : Metadata) where
       → IsSettled with_defs (λ ns. map (id_in ns) def_texts) defs → IsSettled with_refs (λ ns. map (target_of_in ns files k m) (rows_of m 0x01)) refs
       → IsSettled with_fields (λ ns. map (id_in ns) (column_texts m 0x04 1)) fields → IsSettled new (λ ns. map (id_in ns) (column_texts m 0x06 3)) methods
       → IsSettled new (λ ns. file_names_in ns files k m)
-          (record { defs = defs; types = record { first_def = first; defs = count; refs = refs }; fields = fields; methods = methods })
+      (record { defs = defs; types = record { first_def = first; defs = count; refs = refs }; fields = fields; methods = methods })
   file_settled with_defs with_refs with_fields new refs_more fields_more methods_more first count defs fields methods refs first_is count_is def_ids ref_ids field_ids method_ids =
       let on_refs = after (λ ns. map (id_in ns) def_texts) defs with_defs with_refs ref_texts def_ids refs_more in
       let on_fields = after (λ ns. map (id_in ns) def_texts) defs with_refs with_fields (column_texts m 0x04 1) on_refs fields_more in
@@ -91,8 +91,8 @@ same_all f g same (x ∷ xs) = ap₂ (λ y ys. y ∷ ys) (same x) (same_all f g 
 joined : (files : List Metadata) (k : ℕ) (m : Metadata) (defs defs' fields fields' methods methods' : List NameId) (refs refs' : List Target)
     → defs ≡ defs' → refs ≡ refs' → fields ≡ fields' → methods ≡ methods'
     → ◌≡◌ {A = FileNames}
-        (record { defs = defs; types = record { first_def = first_def files k; defs = rows m 0x02; refs = refs }; fields = fields; methods = methods })
-        (record { defs = defs'; types = record { first_def = first_def files k; defs = rows m 0x02; refs = refs' }; fields = fields'; methods = methods' })
+    (record { defs = defs; types = record { first_def = first_def files k; defs = rows m 0x02; refs = refs }; fields = fields; methods = methods })
+    (record { defs = defs'; types = record { first_def = first_def files k; defs = rows m 0x02; refs = refs' }; fields = fields'; methods = methods' })
 joined files k m defs defs' fields fields' methods methods' refs refs' defs_are refs_are fields_are methods_are =
     let types : ◌≡◌ {A = TypeRows} (record { first_def = first_def files k; defs = rows m 0x02; refs = refs }) (record {
       first_def = first_def files k;

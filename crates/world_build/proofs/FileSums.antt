@@ -53,7 +53,7 @@ module _ {X : Type 0} (give : ℕ → Metadata → List X) where
       let here : n + 0 ≡ n = omega arith in
       all_of_both p (give n m) (from (n + 1) ms) (subst (λ (k : ℕ). list_all p (give k m) ≡ true) here (each 0 m refl))
       (all_from p (n + 1) ms
-        (λ k o e. let behind : n + suc k ≡ n + 1 + k = omega arith in subst (λ (i : ℕ). list_all p (give i o) ≡ true) behind (each (suc k) o e)))
+      (λ k o e. let behind : n + suc k ≡ n + 1 + k = omega arith in subst (λ (i : ℕ). list_all p (give i o) ≡ true) behind (each (suc k) o e)))
 
   pub all_of_each : (p : X → Bool) (files : List Metadata) → ((k : ℕ) (m : Metadata) → slice_get files k ≡ Some m → list_all p (give k m) ≡ true)
       → list_all p (of_each give files) ≡ true

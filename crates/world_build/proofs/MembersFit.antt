@@ -58,7 +58,7 @@ module _ (c : Counts) where
   owner_fits s def ok =
       choose (λ (d : ℕ). nat_lt d c.defs ≡ true) (nat_le 1 def && nat_le def s.defs) _ _
       (λ e. let parts = and_parts (nat_le 1 def) (nat_le def s.defs) e in
-        lt-ltb (s.first_def + (def - 1)) c.defs (omega (arith, ok.defs, leb-true 1 def parts.0, leb-true def s.defs parts.1)))
+      lt-ltb (s.first_def + (def - 1)) c.defs (omega (arith, ok.defs, leb-true 1 def parts.0, leb-true def s.defs parts.1)))
       (λ _. lt-ltb 0 c.defs (omega (arith, ok.core)))
 
   pub method_of_fits : (n : FileNames) (m : Metadata) (def row : ℕ) → NamesFit c n → method_fits c (method_of n m def row) ≡ true
@@ -66,10 +66,10 @@ module _ (c : Counts) where
   method_of_fits n m def row ok =
       both _ _
       (both _ _
-        (both _ _
-          (both _ _ (all_at_or (name_fits c) n.methods (row - 1) empty_name ok.methods (lt-ltb 52 c.names ok.types.empty)) (owner_fits n.types def ok.types))
-          (formals_of_fit n.types m (method_owner row) ok.types))
-        (tree_fits c n.types ok.types (method_sig m row).ret))
+      (both _ _
+      (both _ _ (all_at_or (name_fits c) n.methods (row - 1) empty_name ok.methods (lt-ltb 52 c.names ok.types.empty)) (owner_fits n.types def ok.types))
+      (formals_of_fit n.types m (method_owner row) ok.types))
+      (tree_fits c n.types ok.types (method_sig m row).ret))
       (trees_fit c n.types ok.types (method_sig m row).params)
 
   pub field_of_fits : (n : FileNames) (m : Metadata) (def row : ℕ) → NamesFit c n → field_fits c (field_of n m def row) ≡ true

@@ -69,7 +69,7 @@ module _ (files : List Metadata) where
   scope_there k m place_of namespace name (Some s) =
       choose IsThere (s.table == 0x00) _ _ (λ _. top_there k namespace name)
       (λ _. choose IsThere (s.table == 0x23) _ _ (λ _. assembly_there (assembly_text m s.row) namespace name)
-        (λ _. choose IsThere (s.table == 0x01) _ _ (λ _. behind_there (place_of s.row) namespace name) (λ _. tt)))
+      (λ _. choose IsThere (s.table == 0x01) _ _ (λ _. behind_there (place_of s.row) namespace name) (λ _. tt)))
 
   there_within : (n k : ℕ) (m : Metadata) (row : ℕ) → IsThere (resolved_within n files k m row)
   unfolding resolved_within

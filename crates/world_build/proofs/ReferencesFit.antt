@@ -44,8 +44,8 @@ module _ (c : Counts) (w : Reader) (ok : ReaderFits c w) where
   parent_fits (Some r) =
       choose (λ t. fits c t ≡ true) (r.table == 0x02) _ _ (λ _. type_at_row_fits c w.types ok.types w.tables (Some r))
       (λ _. choose (λ t. fits c t ≡ true) (r.table == 0x01) _ _ (λ _. type_at_row_fits c w.types ok.types w.tables (Some r))
-        (λ _. choose (λ t. fits c t ≡ true) (r.table == 0x1B) _ _ (λ _. type_at_row_fits c w.types ok.types w.tables (Some r))
-          (λ _. nothing_fits c w.types ok.types false)))
+      (λ _. choose (λ t. fits c t ≡ true) (r.table == 0x1B) _ _ (λ _. type_at_row_fits c w.types ok.types w.tables (Some r))
+      (λ _. nothing_fits c w.types ok.types false)))
 
   pub ref_owner_fits : (row : ℕ) → fits c (ref_owner w row) ≡ true
   unfolding ref_owner
@@ -77,9 +77,9 @@ module _ (c : Counts) (w : Reader) (ok : ReaderFits c w) where
   def_member_fits row =
       choose (λ m. member_fits c m ≡ true) (nat_le row (loose w.tables 5 0x06)) _ _ (λ _. refl)
       (λ owned. choose (λ m. member_fits c m ≡ true) (nat_le row (rows w.tables 0x06)) _ _
-        (λ e. let first = leb-false row (loose w.tables 5 0x06) owned in
-          lt-ltb (w.first_method + (row - 1)) c.methods (omega (arith, first, leb-true row (rows w.tables 0x06) e, ok.own)))
-        (λ _. refl))
+      (λ e. let first = leb-false row (loose w.tables 5 0x06) owned in
+      lt-ltb (w.first_method + (row - 1)) c.methods (omega (arith, first, leb-true row (rows w.tables 0x06) e, ok.own)))
+      (λ _. refl))
 
   ref_member_fits : (row : ℕ) → member_fits c (ref_member w row) ≡ true
   ref_member_fits row =
@@ -100,7 +100,7 @@ module _ (c : Counts) (w : Reader) (ok : ReaderFits c w) where
   named_owner_fits (Some r) =
       choose (λ t. fits c t ≡ true) (r.table == 0x06) _ _ (λ _. owner_type_fits (owner_of w.tables 5 0x06 r.row))
       (λ _. choose (λ t. fits c t ≡ true) (nat_le 1 r.row && nat_le r.row (rows w.tables 0x0A)) _ _ (λ _. ref_owner_fits r.row)
-        (λ _. nothing_fits c w.types ok.types false))
+      (λ _. nothing_fits c w.types ok.types false))
 
   -- the method that a member is
   method_only_fits : (m : Member) → member_fits c m ≡ true → method_is_below c (method_only m) ≡ true

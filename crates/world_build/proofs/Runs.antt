@@ -59,9 +59,9 @@ owned_more m column table k j first end old new next within before first_is end_
       set i d room
       ∙ ap (λ (b : Bool). if b then k + 1 else get_or old i d) (ap₂ (λ (f e : ℕ). in_run f e (i + 1)) first_is end_is)
       ∙ ap (λ (x : ℕ). if is_owner m column table (i + 1) (k + 1) then k + 1 else x)
-        (before.each i d inside ∙ ap (λ (x : ℕ). owner_by m column table (x + 1) (rows m 0x02 - x) (i + 1)) next)
+      (before.each i d inside ∙ ap (λ (x : ℕ). owner_by m column table (x + 1) (rows m 0x02 - x) (i + 1)) next)
       ∙ sym (ap (λ (n : ℕ). owner_by m column table (k + 1) n (i + 1)) more
-          ∙ by_front m column table (k + 1) (rows m 0x02 - (k + 1)) (i + 1) (is_owner m column table (i + 1) (k + 1)) refl);
+      ∙ by_front m column table (k + 1) (rows m 0x02 - (k + 1)) (i + 1) (is_owner m column table (i + 1) (k + 1)) refl);
 }
 
 from_one : {X : Type 0} (f : ℕ → X) (a n : ℕ) → map f (range_with_len (a + 1) n) ≡ map (λ i. f (i + 1)) (range_with_len a n)

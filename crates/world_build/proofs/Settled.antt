@@ -92,7 +92,7 @@ named n = record { 0 = n }
 -- the number that a text gets stays
 pub settled_one : (names : List (List ℕ)) (t : List ℕ) (id : NameId) → id ≡ id_in names t → IsSettled (with_one bytes_eq names t) (λ ns. id_in ns t) id
 settled_one names t id is = record {
-  is = λ more. is ∙ ap named (sym (number_one t names)) ∙ ap named (sym (number_all t (with_one bytes_eq names t) more (among_one t names)))
+  is = λ more. is ∙ ap named (sym (number_one t names)) ∙ ap named (sym (number_all t (with_one bytes_eq names t) more (among_one t names)));
 }
 
 pub numbered_one : (names : List (List ℕ)) (t : List ℕ) (id : NameId) → id ≡ id_in names t → IsNumbered (with_one bytes_eq names t) t id
@@ -125,7 +125,7 @@ module _ {A : Type 0} (of : List (List ℕ) → A) where
 
   pub settled_on : (names xs : List (List ℕ)) (x : A) → IsSettled names of x → IsSettled (with_all bytes_eq names xs) of x
   settled_on names xs x before = record {
-    is = λ more. before.is (xs ++ more) ∙ ap of (all_append names xs more)
+    is = λ more. before.is (xs ++ more) ∙ ap of (all_append names xs more);
   }
 
   pub settled_more : (names : List (List ℕ)) (t : List ℕ) (x : A) → IsSettled names of x → IsSettled (with_one bytes_eq names t) of x
@@ -140,5 +140,5 @@ pub settled_push : {A X : Type 0} (of : List (List ℕ) → X → A) (names : Li
     → IsSettled names (λ ns. map (of ns) (xs ++ x ∷ [])) (items ++ item ∷ [])
 settled_push of names xs x items item before last = record {
   is = λ more.
-      ap₂ (λ l i. l ++ i ∷ []) (before.is more) (last.is more) ∙ sym (map-append (of (with_all bytes_eq names more)) xs (x ∷ []))
+      ap₂ (λ l i. l ++ i ∷ []) (before.is more) (last.is more) ∙ sym (map-append (of (with_all bytes_eq names more)) xs (x ∷ []));
 }

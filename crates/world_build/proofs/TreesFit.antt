@@ -114,10 +114,10 @@ module _ (c : Counts) (s : TypeRows) (ok : RowsFit c s) where
   def_type_fits args value row all =
       choose (λ t. fits c t ≡ true) (nat_le 1 row && nat_le row s.defs) _ _
       (λ e. let parts = and_parts (nat_le 1 row) (nat_le row s.defs) e in
-        let first = leb-true 1 row parts.0 in
-        let last = leb-true row s.defs parts.1 in
-        let small : s.first_def + (row - 1) < c.defs = omega (arith, first, last, ok.defs) in
-        inst_fits c (record { 0 = s.first_def + (row - 1) }) args small all)
+      let first = leb-true 1 row parts.0 in
+      let last = leb-true row s.defs parts.1 in
+      let small : s.first_def + (row - 1) < c.defs = omega (arith, first, last, ok.defs) in
+      inst_fits c (record { 0 = s.first_def + (row - 1) }) args small all)
       (λ _. nothing_fits value)
 
   pub row_type_fits : (args : List Ty) (value : Bool) (r : Option RowOf) → all_fit c args ≡ true → fits c (row_type s args value r) ≡ true
@@ -125,7 +125,7 @@ module _ (c : Counts) (s : TypeRows) (ok : RowsFit c s) where
   row_type_fits args value (Some r) all =
       choose (λ t. fits c t ≡ true) (r.table == 0x02) _ _ (λ _. def_type_fits args value r.row all)
       (λ _. choose (λ t. fits c t ≡ true) (r.table == 0x01) _ _
-        (λ _. target_type_fits args value (slice_get s.refs (r.row - 1)) (r.row - 1) all refl) (λ _. nothing_fits value))
+      (λ _. target_type_fits args value (slice_get s.refs (r.row - 1)) (r.row - 1) all refl) (λ _. nothing_fits value))
 
   -- ---- signatures
 

@@ -80,7 +80,7 @@ all_enumerated p f n (x ∷ xs) each =
     let here : n + 0 ≡ n = omega arith in
     both _ _ (subst (λ (k : ℕ). p (f (k, x)) ≡ true) here (each 0 x refl))
     (all_enumerated p f (n + 1) xs
-      (λ i y e. let behind : n + suc i ≡ n + 1 + i = omega arith in subst (λ (k : ℕ). p (f (k, y)) ≡ true) behind (each (suc i) y e)))
+    (λ i y e. let behind : n + suc i ≡ n + 1 + i = omega arith in subst (λ (k : ℕ). p (f (k, y)) ≡ true) behind (each (suc i) y e)))
 
 listed_within : (m : Metadata) (n row : ℕ) → slice_get (rows_of m 0x11) n ≡ Some row → locals_before m n + length (listed (locals_in m row)) ≤ locals_before m (rows m 0x11)
 unfolding locals_before
@@ -98,8 +98,8 @@ unfolding locals_of sigs_in
 locals_good c m first within =
     all_enumerated (locals_fit c) (run_at m first) 0 (rows_of m 0x11)
     (λ n row e. let here : 0 + n ≡ n = omega arith in
-      subst (λ (k : ℕ). locals_fit c (run_at m first (k, row)) ≡ true) (sym here)
-      (run_good c m first n (locals_in m row) (omega (arith, within, listed_within m n row e))))
+    subst (λ (k : ℕ). locals_fit c (run_at m first (k, row)) ≡ true) (sym here)
+    (run_good c m first n (locals_in m row) (omega (arith, within, listed_within m n row e))))
 
 -- ---- the whole
 
@@ -169,10 +169,10 @@ module _ (files : List (List ℕ)) (few : AreFew files) where
     file_defs_fit =
         all_of_range (def_fits c) _ 1 (rows m 0x02)
         (λ row first last.
-          def_of_fits c (file_names ts k m) m (k + 1) (run_of ts k m row) (impls_of (reader ts k m) row) row names_fit (le-leb (k + 1) c.files (omega (arith, file_there)))
-          (run_fits c ts k m row (few.passed k m there) first (omega (arith, last)) (omega (arith, field_total ts, rows_within ts k 0x04 m there))
-            (omega (arith, method_total ts, rows_within ts k 0x06 m there)))
-          (impls_of_fit c (reader ts k m) reader_fits row))
+        def_of_fits c (file_names ts k m) m (k + 1) (run_of ts k m row) (impls_of (reader ts k m) row) row names_fit (le-leb (k + 1) c.files (omega (arith, file_there)))
+        (run_fits c ts k m row (few.passed k m there) first (omega (arith, last)) (omega (arith, field_total ts, rows_within ts k 0x04 m there))
+        (omega (arith, method_total ts, rows_within ts k 0x06 m there)))
+        (impls_of_fit c (reader ts k m) reader_fits row))
 
     file_sigs_fit : list_all (key_fits c) (file_keys (reader ts k m)) ≡ true
     file_sigs_fit = file_keys_fit c (reader ts k m) reader_fits
@@ -187,7 +187,7 @@ module _ (files : List (List ℕ)) (few : AreFew files) where
   methods_all =
       all_of_both (method_fits c) _ _ (methods_fit_all c some_names some_defs some_methods)
       (all_of_each (λ k m. file_methods (file_names ts k m) m) (method_fits c) ts
-        (λ k m there. file_methods_fit c (file_names ts k m) m (names_fit k m there)))
+      (λ k m there. file_methods_fit c (file_names ts k m) m (names_fit k m there)))
 
   fields_all : list_all (field_fits c) (member_table ts).fields ≡ true
   unfolding member_table
@@ -217,21 +217,21 @@ module _ (files : List (List ℕ)) (few : AreFew files) where
     file_good =
         both _ _
         (both _ _
-          (both _ _
-            (both _ _
-              (both _ _ (le-leb (first_sig ts k + tokens.row_sigs (world_file ts b k m)) c.sigs (omega (arith, sigs_within, row_sigs_within)))
-                (le-leb (rows_before ts k 0x04 + rows m 0x04) c.fields (omega (arith, field_total ts, rows_within ts k 0x04 m there))))
-              (le-leb (core_methods + rows_before ts k 0x06 + rows m 0x06) c.methods (omega (arith, method_total ts, rows_within ts k 0x06 m there))))
-            (all_of_map (member_fits c) (member_ref (reader ts k m)) (rows_of m 0x0A) (member_ref_fits c (reader ts k m) (reader_fits k m there))))
-          (all_of_map (member_fits c) (method_spec (reader ts k m)) (rows_of m 0x2B) (method_spec_fits c (reader ts k m) (reader_fits k m there))))
+        (both _ _
+        (both _ _
+        (both _ _ (le-leb (first_sig ts k + tokens.row_sigs (world_file ts b k m)) c.sigs (omega (arith, sigs_within, row_sigs_within)))
+        (le-leb (rows_before ts k 0x04 + rows m 0x04) c.fields (omega (arith, field_total ts, rows_within ts k 0x04 m there))))
+        (le-leb (core_methods + rows_before ts k 0x06 + rows m 0x06) c.methods (omega (arith, method_total ts, rows_within ts k 0x06 m there))))
+        (all_of_map (member_fits c) (member_ref (reader ts k m)) (rows_of m 0x0A) (member_ref_fits c (reader ts k m) (reader_fits k m there))))
+        (all_of_map (member_fits c) (method_spec (reader ts k m)) (rows_of m 0x2B) (method_spec_fits c (reader ts k m) (reader_fits k m there))))
         (locals_good c m (first_sig ts k) sigs_within)
 
   files_all : list_all (file_fits c) world_files ≡ true
   files_all =
       all_of_bytes (λ b k m. world_file ts b k m ∷ []) (file_fits c) 0 files
       (λ k b e. let here : 0 + k ≡ k = omega arith in
-        subst (λ (i : ℕ). list_all (file_fits c) (world_file ts b i (metadata_in b) ∷ []) ≡ true) (sym here)
-        (both _ _ (file_good k b (metadata_in b) (table_at files k b e)) refl))
+      subst (λ (i : ℕ). list_all (file_fits c) (world_file ts b i (metadata_in b) ∷ []) ≡ true) (sym here)
+      (both _ _ (file_good k b (metadata_in b) (table_at files k b e)) refl))
 
   -- ---- bodies
 
@@ -244,19 +244,19 @@ module _ (files : List (List ℕ)) (few : AreFew files) where
   bodies_all =
       all_of_both (place_fits world_files) (replicate (length core.methods) no_body) (of_bytes (λ b k m. file_bodies b (k + 1) m) 0 files) (none_fit world_files (length core.methods))
       (all_of_bytes (λ b k m. file_bodies b (k + 1) m) (place_fits world_files) 0 files
-        (λ k b e. let here : 0 + k ≡ k = omega arith in
-          subst (λ (i : ℕ). list_all (place_fits world_files) (file_bodies b (i + 1) (metadata_in b)) ≡ true) (sym here)
-          (all_of_map (place_fits world_files) (body_of b (k + 1) (metadata_in b)) (rows_of (metadata_in b) 0x06)
-            (body_fits world_files (k + 1) b (file_in k b e) (metadata_in b)))))
+      (λ k b e. let here : 0 + k ≡ k = omega arith in
+      subst (λ (i : ℕ). list_all (place_fits world_files) (file_bodies b (i + 1) (metadata_in b)) ≡ true) (sym here)
+      (all_of_map (place_fits world_files) (body_of b (k + 1) (metadata_in b)) (rows_of (metadata_in b) 0x06)
+      (body_fits world_files (k + 1) b (file_in k b e) (metadata_in b)))))
 
   bodies_count : nat_eq (length (replicate (length core.methods) no_body ++ of_bytes (λ b k m. file_bodies b (k + 1) m) 0 files)) (length (member_table ts).methods) ≡ true
   unfolding file_bodies
   bodies_count =
       eq-eqb _ _
       (length-append (replicate (length core.methods) no_body) _
-        ∙ ap₂ ◌+◌ (length-replicate (length core.methods) no_body ∙ count_of_methods)
-        (length_of_bytes (λ b k m. file_bodies b (k + 1) m) (λ m. rows m 0x06) 0 files (λ b k m. length-map-range_with_len (body_of b (k + 1) m) 1 (rows m 0x06)))
-        ∙ sym (method_total ts))
+      ∙ ap₂ ◌+◌ (length-replicate (length core.methods) no_body ∙ count_of_methods)
+      (length_of_bytes (λ b k m. file_bodies b (k + 1) m) (λ m. rows m 0x06) 0 files (λ b k m. length-map-range_with_len (body_of b (k + 1) m) 1 (rows m 0x06)))
+      ∙ sym (method_total ts))
 
   -- ---- the counts
 
@@ -268,20 +268,20 @@ module _ (files : List (List ℕ)) (few : AreFew files) where
   world_is_whole =
       both _ _
       (both _ _
-        (both _ _
-          (both _ _
-            (both _ _
-              (both _ _
-                (both _ _
-                  (both _ _
-                    (both _ _
-                      (both _ _ (le-leb c.defs most (omega (arith, def_total ts, few.defs))) (le-leb c.methods most (omega (arith, method_total ts, few.methods))))
-                      (le-leb c.fields most (omega (arith, field_total ts, few.fields))))
-                    refl)
-                  (le-leb c.sigs (most + 0) (omega (arith, sig_total ts, few.sigs))))
-                (lt-ltb c.names 4294967296 names_small))
-              (both _ _ (both _ _ (lt-ltb 1 c.defs (omega (arith, some_defs))) (lt-ltb 2 c.defs (omega (arith, some_defs)))) (lt-ltb 22 c.defs (omega (arith, some_defs)))))
-            (core_in_order ts))
-          (both _ _ (both _ _ (both _ _ (both _ _ defs_all methods_all) fields_all) sigs_all) refl))
-        files_all)
+      (both _ _
+      (both _ _
+      (both _ _
+      (both _ _
+      (both _ _
+      (both _ _
+      (both _ _
+      (both _ _ (le-leb c.defs most (omega (arith, def_total ts, few.defs))) (le-leb c.methods most (omega (arith, method_total ts, few.methods))))
+      (le-leb c.fields most (omega (arith, field_total ts, few.fields))))
+      refl)
+      (le-leb c.sigs (most + 0) (omega (arith, sig_total ts, few.sigs))))
+      (lt-ltb c.names 4294967296 names_small))
+      (both _ _ (both _ _ (lt-ltb 1 c.defs (omega (arith, some_defs))) (lt-ltb 2 c.defs (omega (arith, some_defs)))) (lt-ltb 22 c.defs (omega (arith, some_defs)))))
+      (core_in_order ts))
+      (both _ _ (both _ _ (both _ _ (both _ _ defs_all methods_all) fields_all) sigs_all) refl))
+      files_all)
       (both _ _ bodies_count bodies_all)

@@ -60,9 +60,9 @@ member_keys_count w =
     length-append _ _
     ∙ ap₂ ◌+◌
     (length-append _ _
-      ∙ ap₂ ◌+◌
-      (length-append _ _ ∙ ap₂ ◌+◌ (length-map-range_with_len _ 1 (rows w.tables 0x04)) (length-map-range_with_len _ 1 (rows w.tables 0x06)))
-      (length-map-range_with_len _ 1 (rows w.tables 0x0A)))
+    ∙ ap₂ ◌+◌
+    (length-append _ _ ∙ ap₂ ◌+◌ (length-map-range_with_len _ 1 (rows w.tables 0x04)) (length-map-range_with_len _ 1 (rows w.tables 0x06)))
+    (length-map-range_with_len _ 1 (rows w.tables 0x0A)))
     (length-map-range_with_len (spec_key w) 1 (rows w.tables 0x2B))
 
 listed_sum : (w : Reader) (rows : List ℕ)

@@ -60,8 +60,16 @@ refs_few m = omega arith
 pub named_few : (ms : List Metadata) → sum_by named_rows ms ≤ all_rows ms 0x02 + all_rows ms 0x04 + all_rows ms 0x06 + sum_by sigs_in ms
 named_few [] = omega arith
 named_few (m ∷ ms) =
-    omega (arith, named_few ms, refs_few m, sum_by-cons named_rows m ms, sum_by-cons (λ m. rows m 0x02) m ms, sum_by-cons (λ m. rows m 0x04) m ms,
-      sum_by-cons (λ m. rows m 0x06) m ms, sum_by-cons sigs_in m ms)
+    omega (
+      arith,
+      named_few ms,
+      refs_few m,
+      sum_by-cons named_rows m ms,
+      sum_by-cons (λ m. rows m 0x02) m ms,
+      sum_by-cons (λ m. rows m 0x04) m ms,
+      sum_by-cons (λ m. rows m 0x06) m ms,
+      sum_by-cons sigs_in m ms,
+    )
 
 -- ---- lists that files give with their bytes
 
@@ -80,7 +88,7 @@ module _ {X : Type 0} (give : List ℕ → ℕ → Metadata → List X) where
       let here : n + 0 ≡ n = omega arith in
       all_of_both p (give b n (metadata_in b)) (of_bytes give (n + 1) bs) (subst (λ (k : ℕ). list_all p (give b k (metadata_in b)) ≡ true) here (each 0 b refl))
       (all_of_bytes p (n + 1) bs
-        (λ k o e. let behind : n + suc k ≡ n + 1 + k = omega arith in subst (λ (i : ℕ). list_all p (give o i (metadata_in o)) ≡ true) behind (each (suc k) o e)))
+      (λ k o e. let behind : n + suc k ≡ n + 1 + k = omega arith in subst (λ (i : ℕ). list_all p (give o i (metadata_in o)) ≡ true) behind (each (suc k) o e)))
 
 -- the table of a file that is there
 pub table_at : (files : List (List ℕ)) (k : ℕ) (b : List ℕ) → slice_get files k ≡ Some b → slice_get (tables_in files) k ≡ Some (metadata_in b)

@@ -16,6 +16,7 @@ use type_tree::{Def, Ty};
 
 /// The table Field, and the column FieldList of TypeDef.
 const FIELD: u8 = 0x04;
+
 const FIELD_LIST: u8 = 4;
 
 /// The definitions of a file, with no MethodImpl rows.

@@ -33,8 +33,11 @@ const CORE_METHOD_COUNT: u32 = 98;
 
 /// The columns of TypeDef: its flags, what it extends, and the first rows of its fields and its methods.
 const FLAGS: u8 = 0;
+
 const EXTENDS: u8 = 3;
+
 const FIELD_LIST: u8 = 4;
+
 const METHOD_LIST: u8 = 5;
 
 /// The column Interface of InterfaceImpl, a coded index TypeDefOrRef.
@@ -42,11 +45,14 @@ const INTERFACE: u8 = 1;
 
 /// The columns of ClassLayout: PackingSize, ClassSize, and Parent.
 const PACKING_SIZE: u8 = 0;
+
 const CLASS_SIZE: u8 = 1;
+
 const PARENT: u8 = 2;
 
 /// The columns of FieldLayout: Offset, and Field.
 const OFFSET: u8 = 0;
+
 const LAID_FIELD: u8 = 1;
 
 /// What a definition extends, nothing where its row is 0.
@@ -108,14 +114,7 @@ pub fn place_of(tables: &Tables<'_>, field_layouts: &RowIndex, row: u32) -> Opti
     requires { Indexes tables.now 0x10 1 field_layouts.now }
     ensures { result ≡ members.place_of tables.now row }
 {
-    first_cell(
-        tables,
-        field_layouts,
-        FIELD_LAYOUT,
-        LAID_FIELD,
-        OFFSET,
-        row,
-    )
+    first_cell(tables, field_layouts, FIELD_LAYOUT, LAID_FIELD, OFFSET, row)
 }
 
 /// The run of the definition in a TypeDef row, where files before its own have so many fields and methods.

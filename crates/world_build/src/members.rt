@@ -26,14 +26,17 @@ const FIELD: u8 = 0x04;
 
 /// The columns of TypeDef (II.22.37) with the first rows of a definition's fields and methods.
 const FIELD_LIST: u8 = 4;
+
 const METHOD_LIST: u8 = 5;
 
 /// The columns of MethodDef (II.22.26) that tell of its flags and its signature.
 const METHOD_FLAGS: u8 = 2;
+
 const METHOD_SIGNATURE: u8 = 4;
 
 /// The columns of Field that tell of its flags and its signature.
 const FIELD_FLAGS: u8 = 0;
+
 const FIELD_SIGNATURE: u8 = 2;
 
 /// The members that a file's rows are.

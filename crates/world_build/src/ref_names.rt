@@ -31,7 +31,10 @@ fn scope(tables: &Tables<'_>, row: u32) -> Option<RowOf>
     requires last { row ≤ row_count tables.now.tables 1 }
     ensures { result ≡ spec.scope tables.now row }
 {
-    coded(CodedIndex::ResolutionScope, tables.cell(TYPE_REF, row, SCOPE))
+    coded(
+        CodedIndex::ResolutionScope,
+        tables.cell(TYPE_REF, row, SCOPE),
+    )
 }
 
 /// The row of the reference around the one in a row, 0 where there is none.

@@ -26,7 +26,12 @@ fn long(value: usize) -> [u8; 4] {
 }
 
 /// The tables Module, of one row, and TypeDef, of three, and one more behind them.
-pub(crate) fn stream(alloc: Global, table: u8, count: usize, rows: &[u8]) -> Result<Vec<u8>, AllocError> {
+pub(crate) fn stream(
+    alloc: Global,
+    table: u8,
+    count: usize,
+    rows: &[u8],
+) -> Result<Vec<u8>, AllocError> {
     let mut tables = Vec::from_slice(alloc, HEADER)?;
     let valid = 5 | 1u64.checked_shl(u32::from(table)).unwrap_or(0);
     tables.extend_from_slice(&valid.to_le_bytes())?;

@@ -30,10 +30,12 @@ const TYPE_REF: u8 = 0x01;
 
 /// The table Field (II.22.15) and its column Name.
 const FIELD: u8 = 0x04;
+
 const FIELD_NAME: u8 = 1;
 
 /// The table MethodDef (II.22.26) and its column Name.
 const METHOD_DEF: u8 = 0x06;
+
 const METHOD_NAME: u8 = 3;
 
 /// The names of a world, and what the rows of each of its files are called.
@@ -44,7 +46,11 @@ pub struct WorldNames {
 }
 
 /// The numbers of the full names of a file's definitions, row by row. New ones come behind the names.
-fn number_defs(alloc: Global, names: &mut Names, tables: &Tables<'_>) -> Result<Items<NameId>, Memory>
+fn number_defs(
+    alloc: Global,
+    names: &mut Names,
+    tables: &Tables<'_>,
+) -> Result<Items<NameId>, Memory>
     requires { length names.old ≤ 4278190080 }
     ensures names { OnOk result (names.new ≡ with_all bytes_eq names.old (map (full_name tables.now) (rows_of tables.now 2))) }
     ensures numbers { IfOk result (λ ids. numbering.IsSettled names.new (λ ns. map (numbering.id_in ns) (map (full_name tables.now) (rows_of tables.now 2))) ids) }

@@ -15,7 +15,7 @@ returns-in-Some c =
     let m = c.args.tables.now in
     ap (λ (n : ℕ). Some n) c.cell.ensures
     ∙ ap (option_map (λ row. at m c.args.table row c.args.column))
-      (sym c.in-Some.is ∙ c.first.ensures ∙ first_given m c.args.table c.args.by c.args.index.now c.requires.index c.args.value)
+    (sym c.in-Some.is ∙ c.first.ensures ∙ first_given m c.args.table c.args.by c.args.index.now c.requires.index c.args.value)
 
 pub returns-in-None : goal.returns-in-None
 returns-in-None c =

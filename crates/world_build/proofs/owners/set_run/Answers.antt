@@ -9,4 +9,4 @@ returns-clause-each c = λ i d within.
     omega (arith, c.loop-row.invariant.last, c.max-start.ensures, c.min-stop.ensures, c.len.ensures) in
     c.loop-row.invariant.set.each i d within
     ∙ ap (λ (b : Bool). if b then c.args.owner else get_or c.args.owners.now i d)
-      (stopped_in c.args.first c.args.end c.loop-row.row i (length c.args.owners.now) within stop last)
+    (stopped_in c.args.first c.args.end c.loop-row.row i (length c.args.owners.now) within stop last)
