@@ -57,7 +57,7 @@ run_ends m column table row here next =
 
 pub run_fits : (c : Counts) (files : List Metadata) (k : ℕ) (m : Metadata) (row : ℕ) → ArePassed m → 1 ≤ row → row ≤ rows m 0x02
     → rows_before files k 0x04 + rows m 0x04 ≤ c.fields → core_methods + (rows_before files k 0x06 + rows m 0x06) ≤ c.methods → RunFits c (run_of files k m row)
-unfolding run_of run_at
+unfolding run_at
 run_fits c files k m row passed first last fields methods =
     let own = run_ends m 4 0x04 row (fields_start m passed row first last) (λ more. fields_start m passed (row + 1) (omega arith) (omega (arith, more))) in
     let other = run_ends m 5 0x06 row (methods_start m passed row first last) (λ more. methods_start m passed (row + 1) (omega arith) (omega (arith, more))) in
