@@ -11,6 +11,7 @@ pub mod FullTypeNames
 pub mod Giving
 pub mod Inside
 pub mod ListFacts
+pub mod LocalsCount
 pub mod MemberLists
 pub mod MembersFit
 pub mod NameLemmas
@@ -21,6 +22,7 @@ pub mod Numbered
 pub mod Passing
 pub mod Placed
 pub mod PlacesFit
+pub mod Pushed
 pub mod Ranges
 pub mod RefNames
 pub mod ReferencesFit
