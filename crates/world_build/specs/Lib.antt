@@ -3,6 +3,7 @@ pub mod Cells
 pub mod CoreLibrary
 pub mod CoreTable
 pub mod Definitions
+pub mod Entries
 pub mod Image
 pub mod MemberTable
 pub mod Members

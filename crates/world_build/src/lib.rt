@@ -8,6 +8,7 @@ mod core_table;
 mod core_type;
 mod def_numbers;
 mod definitions;
+mod entries;
 mod file_names;
 mod file_rows;
 mod formals;
