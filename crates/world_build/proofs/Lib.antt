@@ -13,6 +13,7 @@ pub mod Giving
 pub mod Inside
 pub mod ListFacts
 pub mod LocalsCount
+pub mod ManyImages
 pub mod MemberLists
 pub mod MembersFit
 pub mod NameLemmas

@@ -5,6 +5,7 @@ pub mod CoreTable
 pub mod Definitions
 pub mod Entries
 pub mod Image
+pub mod Images
 pub mod MemberTable
 pub mod Members
 pub mod Names
