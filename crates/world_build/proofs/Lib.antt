@@ -3,6 +3,7 @@ pub mod CoreFacts
 pub mod CoreFits
 pub mod CoreNames
 pub mod DefsFit
+pub mod EachFile
 pub mod Enclosing
 pub mod FileRows
 pub mod FileSums
