@@ -13,6 +13,7 @@ pub mod Giving
 pub mod Inside
 pub mod ListFacts
 pub mod MemberLists
+pub mod MemberParts
 pub mod MembersFit
 pub mod NameLemmas
 pub mod NamesCount
@@ -20,6 +21,7 @@ pub mod NamesThere
 pub mod Noted
 pub mod Numbered
 pub mod Passing
+pub mod PerFile
 pub mod Placed
 pub mod PlacesFit
 pub mod Ranges
