@@ -30,6 +30,7 @@ pub mod ReferencesFit
 pub mod RowLists
 pub mod Runs
 pub mod RunsFit
+pub mod SameTrees
 pub mod Settled
 pub mod SigFolds
 pub mod Targets
