@@ -3,6 +3,7 @@ pub mod CoreFacts
 pub mod CoreFits
 pub mod CoreNames
 pub mod DefsFit
+pub mod EachFile
 pub mod Enclosing
 pub mod EntryLemmas
 pub mod FileRows
@@ -15,6 +16,7 @@ pub mod ListFacts
 pub mod LocalsCount
 pub mod ManyImages
 pub mod MemberLists
+pub mod MemberParts
 pub mod MembersFit
 pub mod NameLemmas
 pub mod NamesCount
@@ -22,6 +24,7 @@ pub mod NamesThere
 pub mod Noted
 pub mod Numbered
 pub mod Passing
+pub mod PerFile
 pub mod Placed
 pub mod PlacesFit
 pub mod Pushed
@@ -31,6 +34,7 @@ pub mod ReferencesFit
 pub mod RowLists
 pub mod Runs
 pub mod RunsFit
+pub mod SameTrees
 pub mod Settled
 pub mod SigFolds
 pub mod Targets

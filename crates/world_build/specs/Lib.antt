@@ -6,6 +6,7 @@ pub mod Definitions
 pub mod Entries
 pub mod Image
 pub mod Images
+pub mod MemberIndexes
 pub mod MemberTable
 pub mod Members
 pub mod Names

@@ -17,10 +17,14 @@ mod image;
 mod images;
 mod indexed_rows;
 mod local_signatures;
+mod member_groups;
+mod member_index;
 mod member_table;
+mod member_tables;
 mod members;
 mod names;
 mod nesting;
+mod open_method;
 mod owners;
 mod ref_names;
 mod refusal;
@@ -37,17 +41,18 @@ mod world_names;
 pub use bodies::file_bodies;
 pub use cells::RowOf;
 pub use core_parts::{CoreParts, core_library};
-pub use core_table::{
-    CORE_DEFS, CORE_METHODS, CORE_NAMES, CoreDef, CoreMethod, DEF_COUNT, DefKind, FormalKind,
-    MemberName, MethodKind, NAME_COUNT, Params, SigType, core_name, def_row, method_rows,
-};
+pub use core_table::{CORE_DEFS, CORE_METHODS, CORE_NAMES, DEF_COUNT, NAME_COUNT, CoreDef, CoreMethod, DefKind, FormalKind, MemberName, MethodKind, Params, SigType, core_name, def_row, method_rows};
 pub use core_type::CoreType;
 pub use file_names::FileNames;
 pub use image::read_image;
 pub use images::{ImagesFault, read_images};
+pub use member_groups::MemberGroups;
+pub use member_index::MemberIndex;
 pub use member_table::{MemberTable, Run};
+pub use member_tables::all_members;
 pub use names::Names;
 pub use nesting::enclosing_rows;
+pub use open_method::{Open, open_of, same_open};
 pub use ref_names::name_of_ref;
 pub use refusal::Refusal;
 pub use resolution::DefPlace;
