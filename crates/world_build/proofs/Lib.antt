@@ -25,6 +25,7 @@ pub mod PlacesFit
 pub mod Ranges
 pub mod RefNames
 pub mod ReferencesFit
+pub mod RootLemmas
 pub mod RowLists
 pub mod Runs
 pub mod RunsFit
