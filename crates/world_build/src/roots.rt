@@ -1,5 +1,5 @@
 //! The roots of a world: what the words name that a program is asked for.
-ghost use Rattle.std.specs.Prelude.{◌≡◌, ◌+◌, ◌≤◌, length, map, string_bytes, IfOk, IfErr, List, ℕ};
+ghost use Rattle.std.specs.Prelude.{◌≡◌, ◌+◌, ◌≤◌, length, map, string_bytes, ◌++◌, ◌∷◌, [], IfOk, IfErr, OnOk, List, ℕ};
 ghost use Rattle.std.specs.Option.{IfSome, IfNone};
 ghost use Rattle.world_build.specs.declared.roots.NamedRoot.{NamedRoot};
 ghost use Rattle.world_build.specs.declared.roots.RootsFault.TheVariants as fault;
@@ -104,5 +104,27 @@ fn root_named(
     match form {
         RootForm::Types => type_named(alloc, world, word),
         RootForm::Entries => entry_named(alloc, world, word),
+    }
+}
+
+/// Roots, and their signatures.
+#[derive(Debug, Drop)]
+struct NewRoots {
+    sigs: KeyList,
+    roots: Items<Root>,
+}
+
+impl NewRoots {
+    /// Adds a root, whose signature gets that number.
+    fn add(&mut self, sig: SigId, root: NamedRoot) -> Result<(), Memory>
+        ensures sigs { OnOk result (self.new.sigs ≡ self.old.sigs ++ spec.root_key root ∷ []) }
+        ensures roots { OnOk result (self.new.roots ≡ self.old.roots ++ record { sig = sig; method = root.method } ∷ []) }
+    {
+        self.roots.push(Root {
+            sig,
+            method: root.method,
+        })?;
+        self.sigs.push(Key::Tree(root.ty))?;
+        Ok(())
     }
 }
