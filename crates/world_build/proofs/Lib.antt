@@ -26,6 +26,7 @@ pub mod Ranges
 pub mod RefNames
 pub mod ReferencesFit
 pub mod RootLemmas
+pub mod RootsGathered
 pub mod RootsWhole
 pub mod RowLists
 pub mod Runs

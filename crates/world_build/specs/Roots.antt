@@ -8,6 +8,7 @@ use Rattle.type_tree.specs.declared.tree.Key.TheVariants.{Tree}
 use Rattle.type_tree.specs.ReadTexts.{Reads}
 use Rattle.type_tree.specs.World.{Facts}
 use Rattle.world_build.specs.declared.roots.NamedRoot.{NamedRoot}
+use Rattle.world_build.specs.declared.roots.NewRoots.{NewRoots}
 use Rattle.world_build.specs.declared.roots.RootForm.{RootForm}
 use Rattle.world_build.specs.declared.roots.RootForm.TheVariants.{Types, Entries}
 use Rattle.world_build.specs.declared.roots.RootsFault.{RootsFault}
@@ -66,6 +67,13 @@ world_with w rs = record {
   enumeration = w.enumeration;
   canon = w.canon;
 }
+
+-- what the words name, as the roots and the signatures that a world gets
+pub record AreNewRoots (w : Facts) (form : RootForm) (words : List (List ℕ)) (found : NewRoots) : Type 0 where
+  pub named : List NamedRoot
+  pub names : NameRoots w form words named
+  pub sigs : found.sigs ≡ map root_key named
+  pub roots : found.roots ≡ roots_from (length w.sigs) named
 
 -- the world with what the words name as its further roots
 pub record HasRoots (w : Facts) (form : RootForm) (words : List (List ℕ)) (made : Facts) : Type 0 where

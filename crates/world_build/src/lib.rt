@@ -48,7 +48,7 @@ pub use nesting::enclosing_rows;
 pub use ref_names::name_of_ref;
 pub use refusal::Refusal;
 pub use resolution::DefPlace;
-pub use roots::{NamedRoot, RootForm, RootsFault};
+pub use roots::{NamedRoot, RootForm, RootsFault, with_roots};
 pub use rows::TYPE_DEF;
 pub use type_rows::{Target, TypeRows};
 pub use world_names::{WorldNames, name_files};

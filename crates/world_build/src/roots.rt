@@ -128,3 +128,50 @@ impl NewRoots {
         Ok(())
     }
 }
+
+/// What words name, as roots of a world and their signatures. `NoName` comes at the first that names nothing.
+fn new_roots(
+    alloc: Global,
+    world: &World,
+    form: RootForm,
+    words: &[String],
+) -> Result<NewRoots, RootsFault>
+    requires few { length words.now ≤ 256 }
+    ensures found { IfOk result (spec.AreNewRoots world.now form (map string_bytes words.now)) }
+    ensures fault { IfErr result (spec.IsFaultOf world.now form (map string_bytes words.now)) }
+{
+    world.whole();
+    let mut found = NewRoots {
+        sigs: Items::new(alloc),
+        roots: Items::new(alloc),
+    };
+    let mut sig = world.sig_count();
+    for word in words {
+        let Some(root) = root_named(alloc, world, form, word.as_str())? else {
+            return Err(RootsFault::NoName(Text::from_str(alloc, word.as_str())?));
+        };
+        found.add(SigId(sig), root)?;
+        sig += 1;
+    }
+    Ok(found)
+}
+
+/// The world with what the words name as further roots, whose signatures stand behind all others. `NoName` comes exactly
+/// where a word names nothing, with the first such word. For the text of a type each definition is looked at once a
+/// name in it, and for an entry then each method of its owner's definition once.
+pub fn with_roots(
+    alloc: Global,
+    world: World,
+    form: RootForm,
+    words: &[String],
+) -> Result<World, RootsFault>
+    requires few { length world.roots + length words.now ≤ 256 }
+    ensures world { IfOk result (spec.HasRoots world form (map string_bytes words.now)) }
+    ensures fault { IfErr result (spec.IsFaultOf world form (map string_bytes words.now)) }
+{
+    let found = new_roots(alloc, &world, form, words)?;
+    let mut parts = world.into_parts();
+    parts.sigs.append(found.sigs)?;
+    parts.roots.append(found.roots)?;
+    Ok(World::new(parts))
+}
