@@ -56,6 +56,8 @@ pub use world_names::{WorldNames, name_files};
 #[cfg(test)]
 mod definition_tests;
 #[cfg(test)]
+mod root_tests;
+#[cfg(test)]
 mod row_tests;
 #[cfg(test)]
 mod tests;
