@@ -31,6 +31,9 @@ pub mod Pushed
 pub mod Ranges
 pub mod RefNames
 pub mod ReferencesFit
+pub mod RootLemmas
+pub mod RootsGathered
+pub mod RootsWhole
 pub mod RowLists
 pub mod Runs
 pub mod RunsFit

@@ -17,6 +17,7 @@ pub mod References
 pub mod Refusals
 pub mod Resolution
 pub mod RowIndexes
+pub mod Roots
 pub mod Rows
 pub mod RowsBefore
 pub mod Signatures

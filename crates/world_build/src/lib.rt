@@ -34,6 +34,7 @@ mod ref_names;
 mod references;
 mod refusal;
 mod resolution;
+mod roots;
 mod row_index;
 mod row_rules;
 mod row_signatures;
@@ -61,12 +62,15 @@ pub use open_method::{Open, open_of, same_open};
 pub use ref_names::name_of_ref;
 pub use refusal::Refusal;
 pub use resolution::DefPlace;
+pub use roots::{NamedRoot, RootForm, RootsFault, with_roots};
 pub use rows::TYPE_DEF;
 pub use type_rows::{Target, TypeRows};
 pub use world_names::{WorldNames, name_files};
 
 #[cfg(test)]
 mod definition_tests;
+#[cfg(test)]
+mod root_tests;
 #[cfg(test)]
 mod row_tests;
 #[cfg(test)]
