@@ -4,6 +4,7 @@ pub mod CoreLibrary
 pub mod CoreTable
 pub mod Definitions
 pub mod Image
+pub mod MemberIndexes
 pub mod MemberTable
 pub mod Members
 pub mod Names

@@ -14,6 +14,8 @@ mod formals;
 mod full_names;
 mod image;
 mod indexed_rows;
+mod member_groups;
+mod member_index;
 mod member_table;
 mod members;
 mod names;
@@ -41,6 +43,8 @@ pub use core_table::{
 pub use core_type::CoreType;
 pub use file_names::FileNames;
 pub use image::read_image;
+pub use member_groups::MemberGroups;
+pub use member_index::MemberIndex;
 pub use member_table::{MemberTable, Run};
 pub use names::Names;
 pub use nesting::enclosing_rows;
