@@ -8,6 +8,7 @@ pub mod Enclosing
 pub mod EntryLemmas
 pub mod FileRows
 pub mod FileSums
+pub mod FirstFound
 pub mod Firsts
 pub mod FullTypeNames
 pub mod Giving
@@ -15,10 +16,13 @@ pub mod Inside
 pub mod ListFacts
 pub mod LocalsCount
 pub mod ManyImages
+pub mod MemberFinds
+pub mod MemberGroupLists
 pub mod MemberLists
 pub mod MemberParts
 pub mod MembersFit
 pub mod NameLemmas
+pub mod Named
 pub mod NamesCount
 pub mod NamesThere
 pub mod Noted

@@ -16,8 +16,8 @@ pub mod Readers
 pub mod References
 pub mod Refusals
 pub mod Resolution
-pub mod RowIndexes
 pub mod Roots
+pub mod RowIndexes
 pub mod Rows
 pub mod RowsBefore
 pub mod Signatures
