@@ -10,6 +10,7 @@ pub mod Members
 pub mod Names
 pub mod Nesting
 pub mod Numbering
+pub mod Readers
 pub mod References
 pub mod Refusals
 pub mod Resolution
