@@ -52,16 +52,21 @@ fn of_def(groups: &[MemberGroups], def: u32, name: NameId) -> &[u32]
     }
 }
 
+/// How many generic parameters the signature of the method with a number counts.
+fn generic_count(members: &MemberTable, method: u32) -> u32
+    ensures { result ≡ get_or members.now.generics method 0 }
+{
+    at(members.generics.as_slice(), method as usize)
+        .copied()
+        .unwrap_or(0)
+}
+
 /// Whether the method with a number is the one that is wanted.
 fn is_wanted(members: &MemberTable, method: u32, wanted: &Open) -> bool
     ensures { result ≡ index.is_wanted members.now wanted.now method }
 {
-    let generic = match members.generics.get(method as usize) {
-        Some(count) => *count,
-        None => 0,
-    };
     match members.methods.get(method as usize) {
-        Some(m) => same_open(m, generic, wanted),
+        Some(m) => same_open(m, generic_count(members, method), wanted),
         None => false,
     }
 }
