@@ -41,7 +41,6 @@ pub struct Reader<'a, 'f> {
 impl<'a, 'f> Model for Reader<'a, 'f> {
     ghost use Rattle.world_build.specs.References as spec;
     ghost use Rattle.world_build.specs.Readers.{AreOwners, CanRead};
-
     ghost use Rattle.std.specs.Coded.{codes};
     ghost use Rattle.type_tree.specs.contracts.tree.Ty as tree;
 
