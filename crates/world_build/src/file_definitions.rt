@@ -10,8 +10,9 @@ ghost use Rattle.world_build.specs.Trees.{AreNumbered};
 use crate::definitions::{def_of, run_of};
 use crate::file_names::FileNames;
 use crate::file_rows::FileRows;
+use crate::method_impls::impls_of;
 use crate::reader::Reader;
-use crate::references::impls_of;
+
 use crate::rows::TYPE_DEF;
 use clr_base::Memory;
 use sqlite_items::Items;

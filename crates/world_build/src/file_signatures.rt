@@ -8,8 +8,9 @@ ghost use Rattle.world_build.specs.Signatures as spec;
 ghost use Rattle.world_build.specs.Trees.{AreNumbered};
 
 use crate::local_signatures::push_locals;
+use crate::method_specs::spec_key;
 use crate::reader::Reader;
-use crate::references::{ref_owner, spec_key};
+use crate::references::ref_owner;
 use crate::row_signatures::{push_arrays, push_owners, push_types};
 use crate::rows::{METHOD_DEF, TYPE_DEF};
 use crate::type_rows::TypeRows;

@@ -6,8 +6,9 @@ ghost use Rattle.world_build.specs.Signatures.{locals_of};
 ghost use Rattle.world_build.specs.World as spec;
 
 use crate::owners::loose;
+use crate::method_specs::method_spec;
 use crate::reader::Reader;
-use crate::references::{member_ref, method_spec};
+use crate::references::member_ref;
 use crate::rows::{METHOD_DEF, TYPE_DEF};
 use clr_base::{Bytes, FieldId, Memory, MethId, SigId};
 use sqlite_items::Items;
