@@ -59,6 +59,15 @@ impl World {
         World { parts }
     }
 
+    /// The parts of the world, which are whole.
+    pub fn into_parts(self) -> WorldParts
+        ensures value { result ≡ self }
+        ensures whole { IsWhole result }
+    {
+        let World { parts } = self;
+        parts
+    }
+
     /// How many definitions there are.
     #[tactic(auto, using(crate::proofs::Bounds::defs_few))]
     pub fn def_count(&self) -> u32

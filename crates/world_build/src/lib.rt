@@ -8,21 +8,36 @@ mod core_table;
 mod core_type;
 mod def_numbers;
 mod definitions;
+mod entries;
+mod file_definitions;
 mod file_names;
 mod file_rows;
+mod file_signatures;
+mod file_tokens;
 mod formals;
 mod full_names;
 mod image;
+mod images;
 mod indexed_rows;
 mod local_signatures;
+mod member_groups;
+mod member_index;
 mod member_table;
+mod member_tables;
 mod members;
+mod method_impls;
+mod method_specs;
+mod named_members;
 mod names;
 mod nesting;
+mod open_method;
 mod owners;
+mod reader;
 mod ref_names;
+mod references;
 mod refusal;
 mod resolution;
+mod roots;
 mod row_index;
 mod row_rules;
 mod row_signatures;
@@ -35,25 +50,31 @@ mod world_names;
 pub use bodies::file_bodies;
 pub use cells::RowOf;
 pub use core_parts::{CoreParts, core_library};
-pub use core_table::{
-    CORE_DEFS, CORE_METHODS, CORE_NAMES, CoreDef, CoreMethod, DEF_COUNT, DefKind, FormalKind,
-    MemberName, MethodKind, NAME_COUNT, Params, SigType, core_name, def_row, method_rows,
-};
+pub use core_table::{CORE_DEFS, CORE_METHODS, CORE_NAMES, DEF_COUNT, NAME_COUNT, CoreDef, CoreMethod, DefKind, FormalKind, MemberName, MethodKind, Params, SigType, core_name, def_row, method_rows};
 pub use core_type::CoreType;
 pub use file_names::FileNames;
 pub use image::read_image;
+pub use images::{ImagesFault, read_images};
+pub use member_groups::MemberGroups;
+pub use member_index::MemberIndex;
 pub use member_table::{MemberTable, Run};
+pub use member_tables::all_members;
 pub use names::Names;
 pub use nesting::enclosing_rows;
+pub use open_method::{Open, open_of, same_open};
+pub use reader::Reader;
 pub use ref_names::name_of_ref;
 pub use refusal::Refusal;
 pub use resolution::DefPlace;
+pub use roots::{NamedRoot, RootForm, RootsFault, with_roots};
 pub use rows::TYPE_DEF;
 pub use type_rows::{Target, TypeRows};
 pub use world_names::{WorldNames, name_files};
 
 #[cfg(test)]
 mod definition_tests;
+#[cfg(test)]
+mod root_tests;
 #[cfg(test)]
 mod row_tests;
 #[cfg(test)]
