@@ -30,6 +30,7 @@ pub mod Runs
 pub mod RunsFit
 pub mod Settled
 pub mod SigFolds
+pub mod Signed
 pub mod Targets
 pub mod TreesFit
 pub mod WholeWorld

@@ -16,6 +16,7 @@ pub mod Resolution
 pub mod RowIndexes
 pub mod Rows
 pub mod RowsBefore
+pub mod SignatureChecks
 pub mod Signatures
 pub mod Trees
 pub mod TypeNames

@@ -26,6 +26,7 @@ mod resolution;
 mod row_index;
 mod row_rules;
 mod rows;
+mod signature_checks;
 mod text_numbers;
 mod trees;
 mod type_rows;
@@ -49,6 +50,7 @@ pub use ref_names::name_of_ref;
 pub use refusal::Refusal;
 pub use resolution::DefPlace;
 pub use rows::TYPE_DEF;
+pub use signature_checks::{SIG_COLUMNS, SigColumn, SigKind, check_signatures};
 pub use type_rows::{Target, TypeRows};
 pub use world_names::{WorldNames, name_files};
 
