@@ -2,6 +2,7 @@
 ghost use Rattle.std.specs.Prelude.{◌≡◌, ◌<◌, ◌^◌, All, length, IfOk};
 ghost use Rattle.world_build.specs.Images.{GivesImages, bytes_of_each, images_of};
 ghost use Rattle.world_build.specs.Rows.{ArePassed};
+ghost use Rattle.world_build.specs.SignatureChecks.{AreSigned};
 ghost use Rattle.world_build.specs.World.{tables_in};
 
 use crate::image::read_image;
@@ -36,6 +37,7 @@ pub fn read_images(alloc: Global, files: &[Vec<u8>]) -> Result<Items<Tables<'_>>
     ensures exact { GivesImages result (images_of (bytes_of_each files.now)) }
     ensures all { IfOk result (λ images. images ≡ tables_in (bytes_of_each files.now)) }
     ensures rows { IfOk result (All ArePassed) }
+    ensures signatures { IfOk result (All AreSigned) }
 {
     let mut images = Items::new(alloc);
     for k in 0..files.len() {

@@ -31,6 +31,7 @@ loop-k-preserved c =
           (ap image_of (sym c.as_slice.ensures.value) ∙ c.in-Ok.ensures.exact)
           ∙ ap (λ ms. images_behind ms (map (λ file. file.items) (drop (c.loop-k.k + 1) c.args.files.now))) (sym pushed);
       rows = grind (arith, common_steps);
+      signatures = grind (arith, common_steps);
     }
 
 pub returns-clause-exact : goal.returns-clause-exact
