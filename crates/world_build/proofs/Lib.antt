@@ -2,6 +2,7 @@ pub mod BodiesFit
 pub mod CoreFacts
 pub mod CoreFits
 pub mod CoreNames
+pub mod Counted
 pub mod DefsFit
 pub mod Enclosing
 pub mod FileRows

@@ -2,6 +2,7 @@ pub mod Bodies
 pub mod Cells
 pub mod CoreLibrary
 pub mod CoreTable
+pub mod Counts
 pub mod Definitions
 pub mod Image
 pub mod Images

@@ -6,6 +6,7 @@ mod cells;
 mod core_parts;
 mod core_table;
 mod core_type;
+mod counts;
 mod def_numbers;
 mod definitions;
 mod file_names;
@@ -40,6 +41,7 @@ pub use core_table::{
     MemberName, MethodKind, NAME_COUNT, Params, SigType, core_name, def_row, method_rows,
 };
 pub use core_type::CoreType;
+pub use counts::Totals;
 pub use file_names::FileNames;
 pub use image::read_image;
 pub use images::{ImagesFault, read_images};

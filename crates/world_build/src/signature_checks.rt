@@ -22,7 +22,7 @@ use std::collections::BTreeMap;
 const FIELD_CODE: u8 = 0x06;
 
 /// The code that the types of local variables begin with (II.23.2.6).
-const LOCALS_CODE: u8 = 0x07;
+pub(crate) const LOCALS_CODE: u8 = 0x07;
 
 // `Member` is a field's or a method's, `Locals` is asked only of what begins as the types of local variables do, and
 // `Arguments` are those of a generic method.
@@ -81,7 +81,7 @@ pub const SIG_COLUMNS: [SigColumn; 6] = [
 ];
 
 /// Whether a blob begins with a code.
-fn begins_with(code: u8, blob: &[u8]) -> bool
+pub(crate) fn begins_with(code: u8, blob: &[u8]) -> bool
     ensures { result ≡ begins code blob.now }
 {
     match blob {
