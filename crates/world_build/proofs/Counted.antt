@@ -16,13 +16,13 @@ use Rattle.world_build.specs.Signatures.{listed, locals_in, locals_before}
 pub capped_few : (n : ℕ) → capped n ≤ too_many
 capped_few n = min-le_right n too_many
 
-stops : (n : ℕ) → too_many ≤ n → capped n ≡ too_many
+pub stops : (n : ℕ) → too_many ≤ n → capped n ≡ too_many
 stops n many = min-eq_right many
 
-below : (n : ℕ) → n ≤ too_many → capped n ≡ n
+pub below : (n : ℕ) → n ≤ too_many → capped n ≡ n
 below n few = min-eq_left few
 
-one_of : (n : ℕ) → (n ≤ too_many) ⊎ (too_many ≤ n)
+pub one_of : (n : ℕ) → (n ≤ too_many) ⊎ (too_many ≤ n)
 one_of n = grind arith
 
 pub capped_sum : (a b x y : ℕ) → a ≡ capped x → b ≡ capped y → capped (a + b) ≡ capped (x + y)

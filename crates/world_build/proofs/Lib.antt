@@ -5,6 +5,7 @@ pub mod CoreNames
 pub mod Counted
 pub mod DefsFit
 pub mod Enclosing
+pub mod FewEnough
 pub mod FileRows
 pub mod FileSums
 pub mod Firsts

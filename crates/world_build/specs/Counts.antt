@@ -1,8 +1,8 @@
 -- How many definitions, methods, fields and signatures files may give a world, so that tokens can number them.
-use Rattle.std.specs.Prelude.{ℕ, ◌+◌, ◌&&◌, List, [], ◌∷◌, length, min, Bool, nat_le, Result, Ok, Err, sum_by, if◌then◌else◌, Option, None, Some}
+use Rattle.std.specs.Prelude.{ℕ, ◌+◌, ◌&&◌, List, [], ◌∷◌, length, min, Bool, nat_le, Option, None, Some, if◌then◌else◌}
+use Rattle.std.specs.List.{sum_by}
 use Rattle.clr_base.specs.declared.image_fault.FaultKind.TheVariants.{TooMany}
-use Rattle.clr_base.specs.declared.image_fault.ImageFault.{ImageFault}
-use Rattle.clr_base.specs.Checks.{Check, check, outcome}
+use Rattle.clr_base.specs.Checks.{Check, check}
 use Rattle.cli_sigs.specs.declared.signature.SigTy.{SigTy}
 use Rattle.cli_sigs.specs.Signatures.{placed, locals_at}
 use Rattle.cli_tables.specs.Metadata.{Metadata}
