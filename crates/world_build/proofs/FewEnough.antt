@@ -50,8 +50,12 @@ same_count b x few =
       | inr many ↦ absurd (omega (arith, stops x many))
     ]
 
-abbrev of_four : ℕ → ℕ → ℕ → ℕ → Totals
+abbrev pub of_four : ℕ → ℕ → ℕ → ℕ → Totals
 of_four d m f s = record { defs = d; methods = m; fields = f; sigs = s }
+
+pub same_four : (d d' m m' f f' s s' : ℕ) → d ≡ d' → m ≡ m' → f ≡ f' → s ≡ s' → of_four d m f s ≡ of_four d' m' f' s'
+same_four d d' m m' f f' s s' d_is m_is f_is s_is =
+    ap (λ n. of_four n m f s) d_is ∙ ap (λ n. of_four d' n f s) m_is ∙ ap (λ n. of_four d' m' n s) f_is ∙ ap (λ n. of_four d' m' f' n) s_is
 
 module _ (t : Totals) (m : Metadata) (defs methods fields own locals : ℕ) (defs_is : defs ≡ rows m 0x02) (methods_is : methods ≡ rows m 0x06) (fields_is : fields ≡ rows m 0x04)
     (own_is : own ≡ row_sigs m) (locals_is : locals ≡ all_locals m) where
@@ -76,10 +80,7 @@ module _ (t : Totals) (m : Metadata) (defs methods fields own locals : ℕ) (def
       let whole : t.sigs + row_sigs m + locals_before m (rows m 0x11) ≡ t.sigs + (row_sigs m + locals_before m (rows m 0x11)) = omega arith in
       let parts = are_below counted few in
       let sigs = same_count (t.sigs + row_sigs m) (locals_before m (rows m 0x11)) (omega (arith, plus, parts.sigs)) in
-      ap (λ n. of_four (t.defs + n) (t.methods + methods) (t.fields + fields) (t.sigs + own + locals)) defs_is
-      ∙ ap (λ n. of_four (t.defs + rows m 0x02) (t.methods + n) (t.fields + fields) (t.sigs + own + locals)) methods_is
-      ∙ ap (λ n. of_four (t.defs + rows m 0x02) (t.methods + rows m 0x06) (t.fields + n) (t.sigs + own + locals)) fields_is
-      ∙ ap (λ n. of_four (t.defs + rows m 0x02) (t.methods + rows m 0x06) (t.fields + rows m 0x04) n) (plus ∙ sigs ∙ whole)
+      same_four _ _ _ _ _ _ _ _ (ap (λ n. t.defs + n) defs_is) (ap (λ n. t.methods + n) methods_is) (ap (λ n. t.fields + n) fields_is) (plus ∙ sigs ∙ whole)
 
 -- the check of the counts
 pub count_passes : (w t : Totals) → are_few t ≡ true → are_few t ≡ are_few w → t ≡ w → outcome (count_checks w) w ≡ Ok t

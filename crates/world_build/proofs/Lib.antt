@@ -6,6 +6,7 @@ pub mod Counted
 pub mod DefsFit
 pub mod Enclosing
 pub mod FewEnough
+pub mod FewFiles
 pub mod FileRows
 pub mod FileSums
 pub mod Firsts

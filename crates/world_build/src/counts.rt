@@ -117,7 +117,7 @@ fn row_sigs(tables: &Tables<'_>) -> u32
 
 impl Totals {
     /// Those of the core library, which has no fields.
-    #[tactic(auto, unfolding(crate::specs::Counts::totals_of))]
+    #[tactic(auto, unfolding(crate::specs::Counts::totals_of, crate::specs::Counts::are_few))]
     pub(crate) fn of_core() -> Totals
         ensures exact { result ≡ spec.totals_of [] }
         ensures few { spec.are_few result ≡ true }
