@@ -2,10 +2,13 @@ pub mod BodiesFit
 pub mod CoreFacts
 pub mod CoreFits
 pub mod CoreNames
+pub mod Counted
 pub mod DefsFit
 pub mod EachFile
 pub mod Enclosing
 pub mod EntryLemmas
+pub mod FewEnough
+pub mod FewFiles
 pub mod FileRows
 pub mod FileSums
 pub mod FirstFound
@@ -44,6 +47,7 @@ pub mod RunsFit
 pub mod SameTrees
 pub mod Settled
 pub mod SigFolds
+pub mod Signed
 pub mod Targets
 pub mod TreesFit
 pub mod WholeWorld
