@@ -4,11 +4,13 @@ pub mod CoreFits
 pub mod CoreNames
 pub mod Counted
 pub mod DefsFit
+pub mod EachBytes
 pub mod EachFile
 pub mod Enclosing
 pub mod EntryLemmas
 pub mod FewEnough
 pub mod FewFiles
+pub mod FileParts
 pub mod FileRows
 pub mod FileSums
 pub mod FirstFound

@@ -96,7 +96,7 @@ file_keys_count w =
     let three = length-append (map Tree (row_types w.types w.tables) ++ map (λ t. Tree (ty.Array t)) (row_types w.types w.tables) ++ member_keys w) (local_keys w.types w.tables) in
     omega (arith, types, arrays, one, two, three, row_types_count w, member_keys_count w, local_keys_count w)
 
-reader_tables : (files : List Metadata) (k : ℕ) (m : Metadata) → (reader files k m).tables ≡ m
+pub reader_tables : (files : List Metadata) (k : ℕ) (m : Metadata) → (reader files k m).tables ≡ m
 unfolding reader
 reader_tables files k m = refl
 

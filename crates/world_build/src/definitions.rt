@@ -29,7 +29,7 @@ use type_tree::{Def, Impl, Ty, TyList};
 const FIELD: u8 = 0x04;
 
 /// How many methods the core has: they stand before those of files.
-const CORE_METHOD_COUNT: u32 = 98;
+pub(crate) const CORE_METHOD_COUNT: u32 = 98;
 
 /// The columns of TypeDef: its flags, what it extends, and the first rows of its fields and its methods.
 const FLAGS: u8 = 0;

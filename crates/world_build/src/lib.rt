@@ -15,6 +15,7 @@ mod file_names;
 mod file_rows;
 mod file_signatures;
 mod file_tokens;
+mod file_worlds;
 mod formals;
 mod full_names;
 mod image;
