@@ -42,6 +42,7 @@ pub mod RefNames
 pub mod ReferencesFit
 pub mod RootLemmas
 pub mod RootsGathered
+pub mod RootsUnique
 pub mod RootsWhole
 pub mod RowLists
 pub mod Runs
