@@ -39,7 +39,7 @@ const TYPE_SPEC: u8 = 0x1b;
 const METHOD_SPEC: u8 = 0x2b;
 
 /// How many definitions, methods, fields and signatures there are.
-#[derive(Clone, Copy, Debug)]
+#[derive(Clone, Copy, Debug, PartialEq, Eq)]
 pub struct Totals {
     pub defs: u32,
     pub methods: u32,

@@ -19,6 +19,7 @@ mod file_worlds;
 mod formals;
 mod full_names;
 mod image;
+mod image_tests;
 mod images;
 mod indexed_rows;
 mod local_signatures;
