@@ -59,6 +59,8 @@ pub use world_names::{WorldNames, name_files};
 #[cfg(test)]
 mod definition_tests;
 #[cfg(test)]
+mod member_tests;
+#[cfg(test)]
 mod row_tests;
 #[cfg(test)]
 mod tests;
