@@ -4,6 +4,7 @@ pub mod CoreFits
 pub mod CoreNames
 pub mod DefsFit
 pub mod Enclosing
+pub mod FewMembers
 pub mod FileRows
 pub mod FileSums
 pub mod FirstFound
