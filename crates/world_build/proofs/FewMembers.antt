@@ -1,5 +1,5 @@
 -- The members of files are few, where all their rows are.
-use Rattle.std.proofs.Common.{◌≡◌, ℕ, ◌+◌, ◌<◌, ◌^◌, List, length, sym, subst}
+use Rattle.std.proofs.Common.{ℕ, ◌+◌, ◌<◌, ◌^◌, List, sym, subst}
 use Rattle.cli_tables.specs.Metadata.{Metadata}
 use Rattle.world_build.specs.CoreTable.{core_methods}
 use Rattle.world_build.specs.MemberIndexes.{AreFew}
