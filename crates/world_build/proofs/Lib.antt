@@ -10,6 +10,7 @@ pub mod Enclosing
 pub mod EntryLemmas
 pub mod FewEnough
 pub mod FewFiles
+pub mod FewMembers
 pub mod FileParts
 pub mod FileRows
 pub mod FileSums

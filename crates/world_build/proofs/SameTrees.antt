@@ -1,5 +1,5 @@
 -- A test that tells whether two lists of trees are equal compares them tree by tree.
-use Rattle.std.proofs.Common.{◌≡◌, Bool, true, false, ◌&&◌, ◌↔◌, IsTrue, List, [], ◌∷◌, refl, ap, ap₂, ◌∙◌, sym, subst}
+use Rattle.std.proofs.Common.{◌≡◌, Bool, true, false, ◌↔◌, IsTrue, List, [], ◌∷◌, refl, ap₂, sym, subst}
 use Rattle.std.proofs.lemmas.Bool.{and_parts}
 use Rattle.type_tree.specs.declared.tree.Ty.{Ty}
 use Rattle.type_tree.specs.contracts.tree.Ty as row-of-ty

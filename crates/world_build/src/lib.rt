@@ -27,6 +27,7 @@ mod member_groups;
 mod member_index;
 mod member_table;
 mod member_tables;
+mod member_tests;
 mod members;
 mod method_impls;
 mod method_specs;

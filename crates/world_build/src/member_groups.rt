@@ -1,5 +1,5 @@
 //! The members of one definition by their names.
-ghost use Rattle.std.specs.Prelude.{◌≡◌, ℕ, ◌<◌, ◌^◌, length, map, IfOk, OnOk};
+ghost use Rattle.std.specs.Prelude.{◌≡◌, ℕ, ◌<◌, ◌^◌, length, IfOk, OnOk};
 ghost use Rattle.world_build.specs.MemberIndexes as spec;
 ghost use Rattle.world_build.specs.MemberIndexes.{AreGroups};
 ghost use Rattle.world_build.specs.RowIndexes.{rows_at, rows_with_one};

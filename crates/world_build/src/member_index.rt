@@ -1,6 +1,5 @@
 //! The members of each definition by their names, and those that a name and a signature find (ECMA-335 II.22.25).
-ghost use Rattle.std.specs.Prelude.{◌≡◌, ℕ, ◌<◌, ◌^◌, length, map, slice_get, get_or, false, IfOk};
-ghost use Rattle.std.specs.Option.{option_map_or};
+ghost use Rattle.std.specs.Prelude.{◌≡◌, map, get_or, false, IfOk};
 ghost use Rattle.world_build.specs.MemberIndexes as index;
 ghost use Rattle.world_build.specs.MemberIndexes.{AreFew, IsIndexOf};
 ghost use Rattle.world_build.specs.MemberTable as spec;
