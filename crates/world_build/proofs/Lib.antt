@@ -1,4 +1,5 @@
 pub mod BodiesFit
+pub mod Builds
 pub mod CoreFacts
 pub mod CoreFits
 pub mod CoreNames

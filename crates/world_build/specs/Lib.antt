@@ -1,4 +1,5 @@
 pub mod Bodies
+pub mod Build
 pub mod Cells
 pub mod CoreLibrary
 pub mod CoreTable

@@ -2,6 +2,7 @@
 #![tactic(auto)]
 
 mod bodies;
+mod building;
 mod cells;
 mod core_parts;
 mod core_table;
@@ -19,7 +20,6 @@ mod file_worlds;
 mod formals;
 mod full_names;
 mod image;
-mod image_tests;
 mod images;
 mod indexed_rows;
 mod local_signatures;
@@ -27,7 +27,6 @@ mod member_groups;
 mod member_index;
 mod member_table;
 mod member_tables;
-mod member_tests;
 mod members;
 mod method_impls;
 mod method_specs;
@@ -42,6 +41,7 @@ mod references;
 mod refusal;
 mod resolution;
 mod root_laws;
+mod resolve;
 mod roots;
 mod row_index;
 mod row_rules;
@@ -52,8 +52,10 @@ mod text_numbers;
 mod trees;
 mod type_rows;
 mod world_names;
+mod worlds;
 
 pub use bodies::file_bodies;
+pub use building::{BuildFault, build};
 pub use cells::RowOf;
 pub use core_parts::{CoreParts, core_library};
 pub use core_table::{CORE_DEFS, CORE_METHODS, CORE_NAMES, DEF_COUNT, NAME_COUNT, CoreDef, CoreMethod, DefKind, FormalKind, MemberName, MethodKind, Params, SigType, core_name, def_row, method_rows};
@@ -84,6 +86,10 @@ pub use world_names::{WorldNames, name_files};
 mod definition_tests;
 #[cfg(test)]
 mod root_tests;
+#[cfg(test)]
+mod image_tests;
+#[cfg(test)]
+mod member_tests;
 #[cfg(test)]
 mod row_tests;
 #[cfg(test)]

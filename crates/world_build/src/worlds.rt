@@ -1,0 +1,96 @@
+//! The world of files that pass their checks, before its roots.
+ghost use Rattle.std.specs.Prelude.{◌≡◌, ◌≤◌, [], All, true, length, IfOk};
+ghost use Rattle.std.proofs.Math.ListN.{replicate};
+ghost use Rattle.world_build.specs.Counts.{are_few, totals_of};
+ghost use Rattle.world_build.specs.CoreLibrary as library;
+ghost use Rattle.world_build.specs.Images.{bytes_of_each};
+ghost use Rattle.world_build.specs.Signatures as signatures;
+ghost use Rattle.world_build.specs.World as spec;
+
+use crate::core_parts::core_library;
+use crate::core_type::CoreType;
+use crate::file_worlds::{Growing, push_files};
+use crate::member_index::MemberIndex;
+use crate::member_tables::all_members;
+use crate::resolve::resolve_files;
+use crate::world_names::name_files;
+use cli_tables::Tables;
+use clr_base::Memory;
+use sqlite_items::{Boxed, Items};
+use std::alloc::Global;
+use type_tree::{BodyPlace, Def, Key, KeyList, Ty, WorldParts};
+
+/// The tree of a type of the core without arguments.
+fn plain(alloc: Global, t: CoreType) -> Ty
+    ensures { result ≡ library.plain t }
+{
+    Ty::Inst(t.def(), Items::new(alloc))
+}
+
+/// System.String, System.Type, System.String[].
+#[tactic(auto, unfolding(crate::specs::Signatures::well_known))]
+fn well_known(alloc: Global) -> Result<KeyList, Memory>
+    ensures { IfOk result (λ keys. keys ≡ signatures.well_known) }
+{
+    let mut keys = Items::new(alloc);
+    keys.push(Key::Tree(plain(alloc, CoreType::String)))?;
+    keys.push(Key::Tree(plain(alloc, CoreType::TypeObject)))?;
+    let element = Boxed::new(alloc, plain(alloc, CoreType::String))?;
+    keys.push(Key::Tree(Ty::Array(element)))?;
+    Ok(keys)
+}
+
+/// What stands before the parts of files: the definitions of the core, whose so many methods have no bodies, and the
+/// signatures that every world has.
+fn of_core(alloc: Global, defs: Items<Def>, methods: usize) -> Result<Growing, Memory>
+    ensures defs { IfOk result (λ parts. parts.defs ≡ defs) }
+    ensures bodies { IfOk result (λ parts. parts.bodies ≡ replicate methods spec.no_body) }
+    ensures sigs { IfOk result (λ parts. parts.sigs ≡ signatures.well_known) }
+    ensures files { IfOk result (λ parts. parts.files ≡ []) }
+{
+    let none: Option<BodyPlace> = None;
+    Ok(Growing {
+        defs,
+        bodies: Items::from_vec(vec![in alloc; none; methods]?),
+        sigs: well_known(alloc)?,
+        files: Items::new(alloc),
+    })
+}
+
+/// The parts of the world of files, given with their tables, that pass their checks. Takes memory for the files' bytes,
+/// their names and members, and memory and time in their rows and signatures.
+#[tactic(auto, unfolding(crate::specs::World::world))]
+pub fn file_world(
+    alloc: Global,
+    files: &[Vec<u8>],
+    tables: &[Tables<'_>],
+) -> Result<WorldParts, Memory>
+    requires images { tables.now ≡ spec.tables_in (bytes_of_each files.now) }
+    requires count { length tables.now ≤ 16 }
+    requires few { are_few (totals_of tables.now) ≡ true }
+    ensures { IfOk result (λ parts. parts ≡ spec.world (bytes_of_each files.now)) }
+{
+    let core = core_library(alloc)?;
+    let (core_names, core_defs, core_methods) = (core.names, core.defs, core.methods);
+    let method_count = core_methods.len();
+    let places = resolve_files(alloc, tables)?;
+    let named = name_files(alloc, core_names, tables, places.as_slice())?;
+    let called = named.files.as_slice();
+    let members = all_members(alloc, core_defs.as_slice(), core_methods, tables, called)?;
+    let index = MemberIndex::new(alloc, &members)?;
+    let mut parts = of_core(alloc, core_defs, method_count)?;
+    push_files(alloc, &named.names, &members, &index, called, files, tables, &mut parts)?;
+    Ok(WorldParts {
+        names: named.names.texts(alloc)?,
+        defs: parts.defs,
+        methods: members.methods,
+        bodies: parts.bodies,
+        fields: members.fields,
+        sigs: parts.sigs,
+        roots: Items::new(alloc),
+        files: parts.files,
+        value_type: CoreType::ValueType.def(),
+        enumeration: CoreType::Enum.def(),
+        canon: CoreType::Canon.def(),
+    })
+}
