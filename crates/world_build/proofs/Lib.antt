@@ -6,6 +6,7 @@ pub mod DefsFit
 pub mod Enclosing
 pub mod FileRows
 pub mod FileSums
+pub mod FirstKeys
 pub mod Firsts
 pub mod FullTypeNames
 pub mod Giving

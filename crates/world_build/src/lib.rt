@@ -27,6 +27,7 @@ mod row_rules;
 mod rows;
 mod text_numbers;
 mod trees;
+mod type_keys;
 mod type_rows;
 mod world_names;
 
