@@ -2,6 +2,7 @@ pub mod BodiesFit
 pub mod CoreFacts
 pub mod CoreFits
 pub mod CoreNames
+pub mod CoreSplits
 pub mod DefsFit
 pub mod Enclosing
 pub mod FileRows
@@ -31,6 +32,7 @@ pub mod RunsFit
 pub mod Settled
 pub mod SigFolds
 pub mod Targets
+pub mod TextNumbers
 pub mod TreesFit
 pub mod WholeWorld
 pub mod WorldCounts

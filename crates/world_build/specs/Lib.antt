@@ -19,5 +19,6 @@ pub mod Signatures
 pub mod Trees
 pub mod TypeKeys
 pub mod TypeNames
+pub mod TypeTexts
 pub mod World
 pub mod WorldNames

@@ -5,6 +5,7 @@ mod bodies;
 mod cells;
 mod core_parts;
 mod core_table;
+mod core_texts;
 mod core_type;
 mod def_numbers;
 mod definitions;
@@ -29,6 +30,7 @@ mod text_numbers;
 mod trees;
 mod type_keys;
 mod type_rows;
+mod type_texts;
 mod world_names;
 
 pub use bodies::file_bodies;
