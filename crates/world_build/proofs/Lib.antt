@@ -7,11 +7,14 @@ pub mod DefsFit
 pub mod Enclosing
 pub mod FileRows
 pub mod FileSums
+pub mod FindDefs
+pub mod FindTypes
 pub mod FirstKeys
 pub mod Firsts
 pub mod FullTypeNames
 pub mod Giving
 pub mod Inside
+pub mod KeyLists
 pub mod ListFacts
 pub mod MemberLists
 pub mod MembersFit

@@ -17,6 +17,7 @@ pub mod Rows
 pub mod RowsBefore
 pub mod Signatures
 pub mod Trees
+pub mod TypeFinders
 pub mod TypeKeys
 pub mod TypeNames
 pub mod TypeTexts

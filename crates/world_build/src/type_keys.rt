@@ -35,7 +35,7 @@ fn note(places: &mut IndexMap<TypeKey, u32>, key: TypeKey, place: u32) -> Result
 impl FirstPlaces {
     /// The places in a list. Takes memory for two numbers a name, and time in their count.
     pub(crate) fn new(alloc: Global, keys: &[TypeKey]) -> Result<FirstPlaces, Memory>
-        requires { length keys.now < 4294967296 }
+        requires { length keys.now < 4294967295 }
         ensures { IfOk result (spec.Finds keys.now) }
     {
         let mut places = IndexMap::new(alloc);

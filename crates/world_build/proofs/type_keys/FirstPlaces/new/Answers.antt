@@ -9,6 +9,7 @@ loop-place-preserved c =
 
 pub returns : goal.returns
 returns c = record {
+  few = c.requires;
   each = λ key.
       let all : c.loop-place.place ≡ length c.args.keys.now = omega arith in
       c.loop-place.invariant key ∙ ap (first_of c.args.keys.now key) all;
