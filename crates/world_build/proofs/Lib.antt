@@ -1,3 +1,4 @@
+pub mod AssemblyNames
 pub mod BodiesFit
 pub mod CoreFacts
 pub mod CoreFits
@@ -28,6 +29,7 @@ pub mod Placed
 pub mod PlacesFit
 pub mod Ranges
 pub mod RefNames
+pub mod RefScopes
 pub mod ReferencesFit
 pub mod RowLists
 pub mod Runs

@@ -1,3 +1,4 @@
+pub mod Assemblies
 pub mod Bodies
 pub mod Cells
 pub mod CoreLibrary

@@ -1,6 +1,7 @@
 //! The world builder: the core library and files become definitions, members, signatures and roots.
 #![tactic(auto)]
 
+mod assemblies;
 mod bodies;
 mod cells;
 mod core_parts;
@@ -22,6 +23,7 @@ mod names;
 mod nesting;
 mod owners;
 mod ref_names;
+mod references;
 mod refusal;
 mod resolution;
 mod row_index;
