@@ -10,6 +10,7 @@ pub mod FileRows
 pub mod FileSums
 pub mod FindDefs
 pub mod FindTypes
+pub mod Finders
 pub mod FirstKeys
 pub mod Firsts
 pub mod FullTypeNames

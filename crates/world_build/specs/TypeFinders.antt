@@ -14,7 +14,7 @@ use Rattle.world_build.specs.Cells.{rows}
 use Rattle.world_build.specs.Names.{number_in}
 use Rattle.world_build.specs.Nesting.{enclosing_row}
 use Rattle.world_build.specs.Resolution.{def_row}
-use Rattle.world_build.specs.TypeKeys.{first_at}
+use Rattle.world_build.specs.TypeKeys.{Finds, first_at, keys_of}
 use Rattle.world_build.specs.TypeNames.{def_name, def_namespace}
 use Rattle.world_build.specs.TypeTexts.{AreCoreTexts, AreFileTexts, core_namespace, core_type_name}
 
@@ -42,6 +42,21 @@ pub record AreTexts (names : List (List ℕ)) (files : List Metadata) (texts : L
 pub record AreDefs (names : List (List ℕ)) (files : List Metadata) (defs : List FirstPlaces) : Type 0 where
   pub count : length defs ≡ length files
   pub each : (k : ℕ) (m : Metadata) (p : FirstPlaces) → slice_get files k ≡ Some m → slice_get defs k ≡ Some p → FindsDefs names m p
+
+-- a file has as many texts of definitions as it has definitions
+pub record AreSized (files : List Metadata) (texts : List FileTexts) : Type 0 where
+  pub count : length texts ≡ length files
+  pub namespaces : (k : ℕ) (m : Metadata) (t : FileTexts) → slice_get files k ≡ Some m → slice_get texts k ≡ Some t → length t.defs.namespaces ≡ rows m 0x02
+  pub names : (k : ℕ) (m : Metadata) (t : FileTexts) → slice_get files k ≡ Some m → slice_get texts k ≡ Some t → length t.defs.names ≡ rows m 0x02
+
+-- the definitions of files are found by the numbers of these texts
+abbrev pub FindsKeys : Metadata → FileTexts → FirstPlaces → Type 0
+FindsKeys m t p = Finds (keys_of (λ i. enclosing_row m (i + 1)) t.defs (rows m 0x02)) p
+
+pub record AreIndexed (files : List Metadata) (texts : List FileTexts) (defs : List FirstPlaces) : Type 0 where
+  pub count : length defs ≡ length files
+  pub each : (k : ℕ) (m : Metadata) (t : FileTexts) (p : FirstPlaces) → slice_get files k ≡ Some m → slice_get texts k ≡ Some t → slice_get defs k ≡ Some p
+      → FindsKeys m t p
 
 pub record IsFinder (f : TypeFinder) : Type 0 where
   pub few : length f.files.now < 17
