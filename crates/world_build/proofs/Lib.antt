@@ -1,8 +1,10 @@
+pub mod AssemblyNames
 pub mod BodiesFit
 pub mod Builds
 pub mod CoreFacts
 pub mod CoreFits
 pub mod CoreNames
+pub mod CoreSplits
 pub mod Counted
 pub mod DefsFit
 pub mod EachBytes
@@ -15,11 +17,16 @@ pub mod FewMembers
 pub mod FileParts
 pub mod FileRows
 pub mod FileSums
+pub mod FindDefs
+pub mod FindTypes
+pub mod Finders
 pub mod FirstFound
+pub mod FirstKeys
 pub mod Firsts
 pub mod FullTypeNames
 pub mod Giving
 pub mod Inside
+pub mod KeyLists
 pub mod ListFacts
 pub mod LocalsCount
 pub mod ManyImages
@@ -41,6 +48,7 @@ pub mod PlacesFit
 pub mod Pushed
 pub mod Ranges
 pub mod RefNames
+pub mod RefScopes
 pub mod ReferencesFit
 pub mod RootLemmas
 pub mod RootsGathered
@@ -54,6 +62,7 @@ pub mod Settled
 pub mod SigFolds
 pub mod Signed
 pub mod Targets
+pub mod TextNumbers
 pub mod TreesFit
 pub mod WholeWorld
 pub mod WorldCounts

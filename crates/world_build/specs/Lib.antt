@@ -1,3 +1,4 @@
+pub mod Assemblies
 pub mod Bodies
 pub mod Build
 pub mod Cells
@@ -25,6 +26,9 @@ pub mod RowsBefore
 pub mod SignatureChecks
 pub mod Signatures
 pub mod Trees
+pub mod TypeFinders
+pub mod TypeKeys
 pub mod TypeNames
+pub mod TypeTexts
 pub mod World
 pub mod WorldNames

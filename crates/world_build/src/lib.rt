@@ -1,15 +1,18 @@
 //! The world builder: the core library and files become definitions, members, signatures and roots.
 #![tactic(auto)]
 
+mod assemblies;
 mod bodies;
 mod building;
 mod cells;
 mod core_parts;
 mod core_table;
+mod core_texts;
 mod core_type;
 mod counts;
 mod def_numbers;
 mod definitions;
+mod definitions_by_name;
 mod entries;
 mod file_definitions;
 mod file_names;
@@ -40,17 +43,21 @@ mod ref_names;
 mod references;
 mod refusal;
 mod resolution;
-mod root_laws;
 mod resolve;
+mod root_laws;
 mod roots;
 mod row_index;
 mod row_rules;
 mod row_signatures;
 mod rows;
+mod scopes;
 mod signature_checks;
 mod text_numbers;
 mod trees;
+mod type_finder;
+mod type_keys;
 mod type_rows;
+mod type_texts;
 mod world_names;
 mod worlds;
 
@@ -75,6 +82,7 @@ pub use reader::Reader;
 pub use ref_names::name_of_ref;
 pub use refusal::Refusal;
 pub use resolution::DefPlace;
+pub use resolve::resolve_files;
 pub use root_laws::{no_world_of_an_unnamed_word, one_root_of_a_word, one_world_of_roots};
 pub use roots::{NamedRoot, RootForm, RootsFault, with_roots};
 pub use rows::TYPE_DEF;
@@ -85,11 +93,11 @@ pub use world_names::{WorldNames, name_files};
 #[cfg(test)]
 mod definition_tests;
 #[cfg(test)]
-mod root_tests;
-#[cfg(test)]
 mod image_tests;
 #[cfg(test)]
 mod member_tests;
+#[cfg(test)]
+mod root_tests;
 #[cfg(test)]
 mod row_tests;
 #[cfg(test)]

@@ -10,7 +10,7 @@ use clr_base::{Memory, Text};
 use std::alloc::Global;
 
 /// The table TypeRef.
-const TYPE_REF: u8 = 0x01;
+pub(crate) const TYPE_REF: u8 = 0x01;
 
 /// The column ResolutionScope of TypeRef.
 const SCOPE: u8 = 0;
@@ -22,11 +22,11 @@ const NAME: u8 = 1;
 const NAMESPACE: u8 = 2;
 
 /// The most scopes that one goes through, the last one counted.
-const MOST_SCOPES: u8 = 64;
+pub(crate) const MOST_SCOPES: u8 = 64;
 
 /// Where the reference in a row is resolved.
 #[tactic(auto, unfolding(cli_tables::specs::Schema::columns))]
-fn scope(tables: &Tables<'_>, row: u32) -> Option<RowOf>
+pub(crate) fn scope(tables: &Tables<'_>, row: u32) -> Option<RowOf>
     requires first { 1 ≤ row }
     requires last { row ≤ row_count tables.now.tables 1 }
     ensures { result ≡ spec.scope tables.now row }
