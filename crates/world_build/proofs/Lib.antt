@@ -29,7 +29,9 @@ pub mod PerFile
 pub mod Placed
 pub mod PlacesFit
 pub mod Ranges
+pub mod ReadersFit
 pub mod RefNames
+pub mod RefNotes
 pub mod ReferencesFit
 pub mod RowLists
 pub mod Runs

@@ -5,6 +5,7 @@ pub mod CoreTable
 pub mod Definitions
 pub mod Image
 pub mod MemberIndexes
+pub mod MemberRefs
 pub mod MemberTable
 pub mod Members
 pub mod Names

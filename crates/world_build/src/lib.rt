@@ -16,6 +16,7 @@ mod image;
 mod indexed_rows;
 mod member_groups;
 mod member_index;
+mod member_refs;
 mod member_table;
 mod member_tables;
 mod members;
