@@ -47,7 +47,9 @@ pub mod Placed
 pub mod PlacesFit
 pub mod Pushed
 pub mod Ranges
+pub mod ReadersFit
 pub mod RefNames
+pub mod RefNotes
 pub mod RefScopes
 pub mod ReferencesFit
 pub mod RootLemmas

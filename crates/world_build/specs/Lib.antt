@@ -10,6 +10,7 @@ pub mod Entries
 pub mod Image
 pub mod Images
 pub mod MemberIndexes
+pub mod MemberRefs
 pub mod MemberTable
 pub mod Members
 pub mod Names

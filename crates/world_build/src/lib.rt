@@ -28,6 +28,7 @@ mod indexed_rows;
 mod local_signatures;
 mod member_groups;
 mod member_index;
+mod member_refs;
 mod member_table;
 mod member_tables;
 mod members;

@@ -1,6 +1,7 @@
 //! The methods that MethodImpl rows put in the place of others (ECMA-335 II.22.27).
 ghost use Rattle.std.specs.Prelude.{◌≡◌, ◌<◌, ◌≤◌, map, IfOk};
 ghost use Rattle.cli_tables.specs.Layout.{row_count};
+ghost use Rattle.world_build.specs.MemberRefs.{members_of_refs};
 ghost use Rattle.world_build.specs.References as spec;
 ghost use Rattle.world_build.specs.RowIndexes.{AreRows, Indexes};
 
@@ -13,7 +14,7 @@ use cli_tables::CodedIndex;
 use clr_base::Memory;
 use sqlite_items::Items;
 use std::alloc::Global;
-use type_tree::Impl;
+use type_tree::{Impl, Member};
 
 /// The columns MethodBody and MethodDeclaration of MethodImpl.
 const METHOD_BODY: u8 = 1;
@@ -32,46 +33,60 @@ fn impl_member(reader: &Reader<'_, '_>, row: u32, column: u8) -> Option<RowOf>
     coded(CodedIndex::MethodDefOrRef, index)
 }
 
-/// The body and the declaration in a MethodImpl row.
+/// The body and the declaration in a MethodImpl row, given the members of all MemberRef rows.
 #[tactic(auto, unfolding(crate::specs::References::impl_of))]
-pub fn impl_of(alloc: Global, reader: &Reader<'_, '_>, row: u32) -> Result<Impl, Memory>
+pub fn impl_of(
+    alloc: Global,
+    reader: &Reader<'_, '_>,
+    refs: &[Member],
+    row: u32,
+) -> Result<Impl, Memory>
     requires first { 1 ≤ row }
     requires last { row ≤ row_count reader.now.tables.tables 0x19 }
+    requires refs { refs.now ≡ members_of_refs reader.now }
     ensures { IfOk result (λ found. found ≡ spec.impl_of reader.now row) }
 {
     let body = impl_member(reader, row, METHOD_BODY);
     let declaration = impl_member(reader, row, METHOD_DECLARATION);
     Ok(Impl {
-        body: method_only(named_member(alloc, reader, body)?),
+        body: method_only(named_member(reader, refs, body)),
         owner: named_owner(alloc, reader, declaration)?,
-        declaration: method_only(named_member(alloc, reader, declaration)?),
+        declaration: method_only(named_member(reader, refs, declaration)),
     })
 }
 
 /// The bodies and the declarations in some MethodImpl rows.
-fn impls_in(alloc: Global, reader: &Reader<'_, '_>, rows: &[u32]) -> Result<Items<Impl>, Memory>
-    requires { AreRows reader.now.tables 0x19 rows.now }
+fn impls_in(
+    alloc: Global,
+    reader: &Reader<'_, '_>,
+    refs: &[Member],
+    rows: &[u32],
+) -> Result<Items<Impl>, Memory>
+    requires refs { refs.now ≡ members_of_refs reader.now }
+    requires rows { AreRows reader.now.tables 0x19 rows.now }
     ensures { IfOk result (λ impls. impls ≡ map (spec.impl_of reader.now) rows.now) }
 {
     let mut impls = Items::new(alloc);
     for row in rows {
-        impls.push(impl_of(alloc, reader, *row)?)?;
+        impls.push(impl_of(alloc, reader, refs, *row)?)?;
     }
     Ok(impls)
 }
 
-/// Those of the definition in a TypeDef row, in order, given an index of MethodImpl rows by their class. Takes memory and
-/// time in these rows and in the signatures that they name.
+/// Those of the definition in a TypeDef row, in order, given the members of all MemberRef rows and an index of MethodImpl
+/// rows by their class. Takes memory and time in these rows and in the signatures of the types that own the declarations.
 #[tactic(auto, unfolding(crate::specs::References::impls_of))]
 pub fn impls_of(
     alloc: Global,
     reader: &Reader<'_, '_>,
+    refs: &[Member],
     method_impls: &RowIndex,
     row: u32,
 ) -> Result<Items<Impl>, Memory>
-    requires { Indexes reader.now.tables 0x19 0 method_impls.now }
+    requires refs { refs.now ≡ members_of_refs reader.now }
+    requires rows { Indexes reader.now.tables 0x19 0 method_impls.now }
     ensures { IfOk result (λ impls. impls ≡ spec.impls_of reader.now row) }
 {
     let rows = method_impls.rows(row);
-    impls_in(alloc, reader, rows)
+    impls_in(alloc, reader, refs, rows)
 }

@@ -1,6 +1,7 @@
 //! The methods that MethodSpec rows name, with their arguments (ECMA-335 II.22.29).
 ghost use Rattle.std.specs.Prelude.{◌≡◌, ◌≤◌, IfOk};
 ghost use Rattle.cli_tables.specs.Layout.{row_count};
+ghost use Rattle.world_build.specs.MemberRefs.{members_of_refs};
 ghost use Rattle.world_build.specs.References as spec;
 
 use crate::cells::{RowOf, blob, coded};
@@ -16,7 +17,7 @@ use std::alloc::Global;
 use type_tree::{Key, Member, MethKey, Ty, TyList};
 
 /// The table MethodSpec and its columns Method and Instantiation.
-const METHOD_SPEC: u8 = 0x2b;
+pub const METHOD_SPEC: u8 = 0x2b;
 
 const METHOD: u8 = 0;
 
@@ -49,29 +50,27 @@ pub fn spec_args(alloc: Global, reader: &Reader<'_, '_>, row: u32) -> Result<TyL
     trees(alloc, reader.types(), sigs.as_slice())
 }
 
-/// The method in a MethodSpec row, none where it is missing.
+/// The method in a MethodSpec row, none where it is missing, given the members of all MemberRef rows.
 #[tactic(auto, unfolding(crate::specs::References::spec_method))]
-pub fn spec_method(
-    alloc: Global,
-    reader: &Reader<'_, '_>,
-    row: u32,
-) -> Result<Option<MethId>, Memory>
+pub fn spec_method(reader: &Reader<'_, '_>, refs: &[Member], row: u32) -> Option<MethId>
     requires first { 1 ≤ row }
     requires last { row ≤ row_count reader.now.tables.tables 0x2B }
-    ensures { IfOk result (λ method. method ≡ spec.spec_method reader.now row) }
+    requires refs { refs.now ≡ members_of_refs reader.now }
+    ensures { result ≡ spec.spec_method reader.now row }
 {
     let named = spec_row(reader.tables(), row);
-    Ok(method_only(named_member(alloc, reader, named)?))
+    method_only(named_member(reader, refs, named))
 }
 
-/// The member in a MethodSpec row.
+/// The member in a MethodSpec row, given the members of all MemberRef rows. Takes no memory and constant time.
 #[tactic(auto, unfolding(crate::specs::References::method_spec))]
-pub fn method_spec(alloc: Global, reader: &Reader<'_, '_>, row: u32) -> Result<Member, Memory>
+pub fn method_spec(reader: &Reader<'_, '_>, refs: &[Member], row: u32) -> Member
     requires first { 1 ≤ row }
     requires last { row ≤ row_count reader.now.tables.tables 0x2B }
-    ensures { IfOk result (λ member. member ≡ spec.method_spec reader.now row) }
+    requires refs { refs.now ≡ members_of_refs reader.now }
+    ensures { result ≡ spec.method_spec reader.now row }
 {
-    Ok(method_member(spec_method(alloc, reader, row)?))
+    method_member(spec_method(reader, refs, row))
 }
 
 /// The key of a method with its owner and its arguments; the owner's type where the method is missing.
@@ -88,15 +87,21 @@ fn spec_key_at(owner: Ty, args: TyList, method: Option<MethId>) -> Key
     }
 }
 
-/// The key of the method in a MethodSpec row. Takes memory and time in the signatures that the row names.
+/// The key of the method in a MethodSpec row, given the members of all MemberRef rows. Takes memory and time in the
+/// signatures that the row names.
 #[tactic(auto, unfolding(crate::specs::References::spec_key))]
-pub fn spec_key(alloc: Global, reader: &Reader<'_, '_>, row: u32) -> Result<Key, Memory>
+pub fn spec_key(
+    alloc: Global,
+    reader: &Reader<'_, '_>,
+    refs: &[Member],
+    row: u32,
+) -> Result<Key, Memory>
     requires first { 1 ≤ row }
     requires last { row ≤ row_count reader.now.tables.tables 0x2B }
+    requires refs { refs.now ≡ members_of_refs reader.now }
     ensures { IfOk result (λ key. key ≡ spec.spec_key reader.now row) }
 {
     let owner = named_owner(alloc, reader, spec_row(reader.tables(), row))?;
     let args = spec_args(alloc, reader, row)?;
-    let method = spec_method(alloc, reader, row)?;
-    Ok(spec_key_at(owner, args, method))
+    Ok(spec_key_at(owner, args, spec_method(reader, refs, row)))
 }

@@ -1,11 +1,12 @@
 //! The members that coded indexes MethodDefOrRef mean (ECMA-335 II.24.2.6), and the types that own them.
 ghost use Rattle.std.specs.Prelude.{◌≡◌, IfOk};
+ghost use Rattle.world_build.specs.MemberRefs.{members_of_refs};
 ghost use Rattle.world_build.specs.References as spec;
 
 use crate::cells::RowOf;
 use crate::owners::loose;
 use crate::reader::Reader;
-use crate::references::{MEMBER_REF, member_ref, ref_owner};
+use crate::references::{MEMBER_REF, ref_owner};
 use crate::rows::METHOD_DEF;
 use crate::trees::{def_type, nothing};
 use clr_base::{Memory, MethId};
@@ -31,29 +32,28 @@ fn def_member(reader: &Reader<'_, '_>, row: u32) -> Member
     Member::Method(reader.method(row))
 }
 
-/// The member of a MemberRef row.
-fn ref_member(alloc: Global, reader: &Reader<'_, '_>, row: u32) -> Result<Member, Memory>
-    ensures { IfOk result (λ member. member ≡ spec.ref_member reader.now row) }
+/// The member of a MemberRef row, given those of all of them.
+fn ref_member(reader: &Reader<'_, '_>, refs: &[Member], row: u32) -> Member
+    requires { refs.now ≡ members_of_refs reader.now }
+    ensures { result ≡ spec.ref_member reader.now row }
 {
     if row < 1 || row > reader.tables().row_count(MEMBER_REF) {
-        return Ok(Member::Lost);
+        return Member::Lost;
     }
-    member_ref(alloc, reader, row)
+    refs[row as usize - 1]
 }
 
-/// The member in a row of MethodDef or of MemberRef, none where the row is none.
+/// The member in a row of MethodDef or of MemberRef, none where the row is none, given the members of all MemberRef rows.
+/// Takes no memory and constant time.
 #[tactic(auto, unfolding(crate::specs::References::named_member))]
-pub fn named_member(
-    alloc: Global,
-    reader: &Reader<'_, '_>,
-    named: Option<RowOf>,
-) -> Result<Member, Memory>
-    ensures { IfOk result (λ member. member ≡ spec.named_member reader.now named) }
+pub fn named_member(reader: &Reader<'_, '_>, refs: &[Member], named: Option<RowOf>) -> Member
+    requires { refs.now ≡ members_of_refs reader.now }
+    ensures { result ≡ spec.named_member reader.now named }
 {
     match named {
-        Some(r) if r.table == METHOD_DEF => Ok(def_member(reader, r.row)),
-        Some(r) => ref_member(alloc, reader, r.row),
-        None => Ok(Member::Lost),
+        Some(r) if r.table == METHOD_DEF => def_member(reader, r.row),
+        Some(r) => ref_member(reader, refs, r.row),
+        None => Member::Lost,
     }
 }
 

@@ -19,11 +19,11 @@ use type_tree::{Member, Ty};
 /// The table MemberRef and its columns Class, Name and Signature.
 pub const MEMBER_REF: u8 = 0x0a;
 
-const CLASS: u8 = 0;
+pub const CLASS: u8 = 0;
 
-const NAME: u8 = 1;
+pub const NAME: u8 = 1;
 
-const SIGNATURE: u8 = 2;
+pub const SIGNATURE: u8 = 2;
 
 /// The code that the signature of a field begins with (II.23.2.4).
 const FIELD_CODE: u8 = 0x06;
