@@ -117,7 +117,7 @@ fn definitions_with_interfaces(rt: HostRuntime) -> Result<(), Fail> {
                 }
             }
             assert_eq!(rt; found.as_slice(), wanted);
-            assert_eq!(rt; (def.first_field, def.first_method), (10, 138));
+            assert_eq!(rt; (def.first_field, def.first_method), (10, 118));
         }
     }
     Ok(())

@@ -2,6 +2,7 @@
 ghost use Rattle.std.specs.Prelude.{◌≡◌, ◌≤◌, ◌++◌, map, OnOk};
 ghost use Rattle.world_build.specs.Cells.{rows_of};
 ghost use Rattle.world_build.specs.Definitions as spec;
+ghost use Rattle.world_build.specs.MemberRefs.{members_of_refs as all_refs};
 ghost use Rattle.world_build.specs.MemberTable.{run_at};
 ghost use Rattle.world_build.specs.References as references;
 ghost use Rattle.world_build.specs.RowIndexes.{AreFileRows};
@@ -17,19 +18,22 @@ use crate::rows::TYPE_DEF;
 use clr_base::Memory;
 use sqlite_items::Items;
 use std::alloc::Global;
-use type_tree::Def;
+use type_tree::{Def, Member};
 
-/// Appends the definitions of the file with a number, from 1, where files before it have so many fields and methods. Takes
+/// Appends the definitions of the file with a number, from 1, where files before it have so many fields and methods, given the
+/// members of its MemberRef rows. Takes
 /// memory and time in the rows that tell of definitions and in the signatures that these name.
 pub fn push_definitions(
     alloc: Global,
     reader: &Reader<'_, '_>,
+    refs: &[Member],
     names: &FileNames,
     file: u32,
     fields_before: u32,
     methods_before: u32,
     defs: &mut Items<Def>,
 ) -> Result<(), Memory>
+    requires refs { refs.now ≡ all_refs reader.now }
     requires numbered { AreNumbered names.now.types }
     requires fields { fields_before ≤ 268435440 }
     requires methods { methods_before ≤ 268435440 }
@@ -40,7 +44,7 @@ pub fn push_definitions(
     for row in 0..tables.row_count(TYPE_DEF) {
         let row = row + 1;
         let run = run_of(tables, fields_before, methods_before, row);
-        let impls = impls_of(alloc, reader, &rows.method_impls, row)?;
+        let impls = impls_of(alloc, reader, refs, &rows.method_impls, row)?;
         defs.push(def_of(alloc, names, tables, &rows, file, run, impls, row)?)?;
     }
     Ok(())

@@ -3,6 +3,7 @@ ghost use Rattle.std.specs.Prelude.{◌≡◌, ◌+◌, ◌*◌, ◌≤◌, ◌+
 ghost use Rattle.type_tree.specs.declared.tree.Key.TheVariants as key;
 ghost use Rattle.type_tree.specs.declared.tree.Ty.TheVariants as ty;
 ghost use Rattle.world_build.specs.Cells.{rows_of};
+ghost use Rattle.world_build.specs.MemberRefs.{members_of_refs as all_refs};
 ghost use Rattle.world_build.specs.References as references;
 ghost use Rattle.world_build.specs.Signatures as spec;
 ghost use Rattle.world_build.specs.Trees.{AreNumbered};
@@ -18,7 +19,7 @@ use cli_tables::Tables;
 use clr_base::Memory;
 use sqlite_items::Items;
 use std::alloc::Global;
-use type_tree::{Key, KeyList, Locals};
+use type_tree::{Key, KeyList, Locals, Member};
 
 /// The tables TypeRef (ECMA-335 II.22.38), TypeSpec (II.22.39), Field (II.22.15), MemberRef (II.22.25), MethodSpec (II.22.29).
 const TYPE_REF: u8 = 0x01;
@@ -74,19 +75,27 @@ fn push_ref_owners(
 fn push_spec_keys(
     alloc: Global,
     reader: &Reader<'_, '_>,
+    refs: &[Member],
     keys: &mut KeyList,
 ) -> Result<(), Memory>
+    requires { refs.now ≡ all_refs reader.now }
     ensures { OnOk result (keys.new ≡ keys.old ++ map (references.spec_key reader.now) (rows_of reader.now.tables 0x2B)) }
 {
     for row in 0..reader.tables().row_count(METHOD_SPEC) {
-        keys.push(spec_key(alloc, reader, row + 1)?)?;
+        keys.push(spec_key(alloc, reader, refs, row + 1)?)?;
     }
     Ok(())
 }
 
 /// Appends the keys of a file's members: the owners' types, and of a MethodSpec row its method's.
 #[tactic(auto, unfolding(crate::specs::Signatures::member_keys, cli_tables::specs::Schema::columns))]
-fn push_members(alloc: Global, reader: &Reader<'_, '_>, keys: &mut KeyList) -> Result<(), Memory>
+fn push_members(
+    alloc: Global,
+    reader: &Reader<'_, '_>,
+    refs: &[Member],
+    keys: &mut KeyList,
+) -> Result<(), Memory>
+    requires { refs.now ≡ all_refs reader.now }
     ensures { OnOk result (keys.new ≡ keys.old ++ spec.member_keys reader.now) }
 {
     let types = reader.types();
@@ -94,7 +103,7 @@ fn push_members(alloc: Global, reader: &Reader<'_, '_>, keys: &mut KeyList) -> R
     push_owners(alloc, types, tables, FIELD_LIST, FIELD, keys)?;
     push_owners(alloc, types, tables, METHOD_LIST, METHOD_DEF, keys)?;
     push_ref_owners(alloc, reader, keys)?;
-    push_spec_keys(alloc, reader, keys)
+    push_spec_keys(alloc, reader, refs, keys)
 }
 
 /// How many signatures of rows a file has before its local variables.
@@ -111,22 +120,24 @@ pub fn row_sigs(tables: &Tables<'_>) -> u32
 }
 
 /// Appends the signatures of a file: the types of its rows, the arrays of these, its members, its local variables. Tells
-/// where the local variables of each StandAloneSig row stand, where the file's first signature has a number. Takes memory
-/// and time in the rows and in what their signatures hold.
+/// where the local variables of each StandAloneSig row stand, where the file's first signature has a number. Given are the
+/// members of its MemberRef rows. Takes memory and time in the rows and in what their signatures hold.
 #[tactic(auto, unfolding(crate::specs::Signatures::file_keys))]
 pub fn push_signatures(
     alloc: Global,
     reader: &Reader<'_, '_>,
+    refs: &[Member],
     first: u32,
     keys: &mut KeyList,
 ) -> Result<Items<Option<Locals>>, Memory>
-    requires { first + spec.sigs_in reader.now.tables ≤ 16777215 }
+    requires refs { refs.now ≡ all_refs reader.now }
+    requires few { first + spec.sigs_in reader.now.tables ≤ 16777215 }
     ensures keys { OnOk result (keys.new ≡ keys.old ++ spec.file_keys reader.now) }
     ensures places { IfOk result (λ places. places ≡ spec.locals_of reader.now.tables first) }
 {
     let types = reader.types();
     let tables = reader.tables();
     push_row_types(alloc, types, tables, keys)?;
-    push_members(alloc, reader, keys)?;
+    push_members(alloc, reader, refs, keys)?;
     push_locals(alloc, types, tables, first, row_sigs(tables), keys)
 }

@@ -21,6 +21,7 @@ use crate::file_names::FileNames;
 use crate::file_signatures::push_signatures;
 use crate::file_tokens::{Firsts, file_tokens};
 use crate::member_index::MemberIndex;
+use crate::member_refs::members_of_refs;
 use crate::member_table::MemberTable;
 use crate::names::Names;
 use crate::reader::Reader;
@@ -76,9 +77,11 @@ fn push_file(
         field: before.fields,
         method: CORE_METHOD_COUNT + before.methods,
     };
+    let refs = members_of_refs(alloc, reader)?;
     push_definitions(
         alloc,
         reader,
+        refs.as_slice(),
         names,
         file + 1,
         before.fields,
@@ -87,8 +90,8 @@ fn push_file(
     )?;
     let bodies = file_bodies(alloc, bytes, file + 1, reader.tables())?;
     parts.bodies.append(bodies)?;
-    let locals = push_signatures(alloc, reader, firsts.sig, &mut parts.sigs)?;
-    parts.files.push(file_tokens(alloc, reader, bytes, firsts, locals)?)?;
+    let locals = push_signatures(alloc, reader, refs.as_slice(), firsts.sig, &mut parts.sigs)?;
+    parts.files.push(file_tokens(alloc, reader, bytes, firsts, refs, locals)?)?;
     Ok(())
 }
 
