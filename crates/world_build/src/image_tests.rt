@@ -30,15 +30,15 @@ fn metadata(
     let tables = stream(alloc, table, count, rows)?;
     let mut meta = Vec::from_slice(alloc, ROOT)?;
     let mut at: usize = 0x50;
-    for (name, stream) in [
-        (b"#~\0\0".as_slice(), tables.as_slice()),
-        (b"#Strings\0\0\0\0".as_slice(), STRINGS),
-        (b"#Blob\0\0\0".as_slice(), blobs),
+    for (name, len) in [
+        (b"#~\0\0".as_slice(), tables.len()),
+        (b"#Strings\0\0\0\0".as_slice(), STRINGS.len()),
+        (b"#Blob\0\0\0".as_slice(), blobs.len()),
     ] {
         meta.extend_from_slice(&long(at))?;
-        meta.extend_from_slice(&long(stream.len()))?;
+        meta.extend_from_slice(&long(len))?;
         meta.extend_from_slice(name)?;
-        at = at.saturating_add(stream.len());
+        at = at.saturating_add(len);
     }
     meta.extend_from_slice(&tables)?;
     meta.extend_from_slice(STRINGS)?;
@@ -111,46 +111,74 @@ fn files_one_after_another(rt: HostRuntime) -> Result<(), Fail> {
     Ok(())
 }
 
+/// What the checks of signatures answer for rows of a table and some blobs.
+fn checked(
+    alloc: Global,
+    rows: (u8, usize, &[u8]),
+    blobs: &[u8],
+) -> Result<Result<(), Refusal>, Refusal> {
+    let meta = metadata(alloc, rows, blobs)?;
+    let tables = Tables::read(&meta)?;
+    Ok(check_signatures(alloc, &tables))
+}
+
+/// The answer where the signature in a row of a table is refused, none of them where the row is 0.
+fn refused(table: u8, row: u64) -> Result<(), Refusal> {
+    let place = (u64::from(table) * 16_777_216).saturating_add(row);
+    let kind = FaultKind::BadSignature;
+    if row == 0 {
+        Ok(())
+    } else {
+        Err(Refusal::Fault(ImageFault { kind, place }))
+    }
+}
+
 #[test]
-fn signatures_that_are_refused(rt: HostRuntime) -> Result<(), Fail> {
-    // The table behind TypeDef, its rows, the blobs, and the row that is refused.
+fn signatures_of_members(rt: HostRuntime) -> Result<(), Fail> {
+    const METHOD: &[u8] = b"\0\0\0\0\0\0\0\0\x01\0\x01\0\x01\0";
+    // The table, its rows, the blobs, and the row that is refused.
     for (table, count, rows, blobs, row) in [
         // Field: a signature that begins with its code
         (
-            0x04,
+            4,
             1,
             b"\0\0\x01\0\x01\0".as_slice(),
             b"\0\x02\x06\x08".as_slice(),
             0,
         ),
-        (0x04, 1, b"\0\0\x01\0\x01\0", b"\0\x02\x20\x08", 1),
+        (4, 1, b"\0\0\x01\0\x01\0", b"\0\x02\x20\x08", 1),
         // MethodDef: a method's
-        (
-            0x06,
-            1,
-            b"\0\0\0\0\0\0\0\0\x01\0\x01\0\x01\0",
-            b"\0\x03\x20\0\x01",
-            0,
-        ),
-        (
-            0x06,
-            1,
-            b"\0\0\0\0\0\0\0\0\x01\0\x01\0\x01\0",
-            b"\0\x02\x06\x08",
-            1,
-        ),
+        (6, 1, METHOD, b"\0\x03\x20\0\x01", 0),
+        (6, 1, METHOD, b"\0\x02\x06\x08", 1),
         // MemberRef: either
-        (0x0a, 1, b"\x08\0\x01\0\x01\0", b"\0\x02\x06\x08", 0),
-        (0x0a, 1, b"\x08\0\x01\0\x01\0", b"\0\x03\x20\0\x01", 0),
+        (10, 1, b"\x08\0\x01\0\x01\0", b"\0\x02\x06\x08", 0),
+        (10, 1, b"\x08\0\x01\0\x01\0", b"\0\x03\x20\0\x01", 0),
         (
-            0x0a,
+            10,
             2,
             b"\x08\0\x01\0\x01\0\x08\0\x01\0\0\0",
             b"\0\x02\x06\x08",
             2,
         ),
+    ] {
+        let answer = checked(rt.alloc(), (table, count, rows), blobs)?;
+        assert_eq!(rt; answer, refused(table, row));
+    }
+    Ok(())
+}
+
+#[test]
+fn signatures_that_stand_alone(rt: HostRuntime) -> Result<(), Fail> {
+    // The table, its rows, the blobs, and the row that is refused.
+    for (table, count, rows, blobs, row) in [
         // StandAloneSig: local variables, and what isn't asked
-        (0x11, 1, b"\x01\0", b"\0\x03\x07\x01\x08", 0),
+        (
+            0x11,
+            1,
+            b"\x01\0".as_slice(),
+            b"\0\x03\x07\x01\x08".as_slice(),
+            0,
+        ),
         (0x11, 1, b"\x01\0", b"\0\x02\x07\x01", 1),
         (0x11, 2, b"\x01\0\0\0", b"\0\x02\xff\xff", 0),
         // TypeSpec
@@ -160,16 +188,8 @@ fn signatures_that_are_refused(rt: HostRuntime) -> Result<(), Fail> {
         (0x2b, 1, b"\x02\0\x01\0", b"\0\x03\x0a\x01\x08", 0),
         (0x2b, 1, b"\x02\0\x01\0", b"\0\x02\x0a\x01", 1),
     ] {
-        let meta = metadata(rt.alloc(), (table, count, rows), blobs)?;
-        let tables = Tables::read(&meta)?;
-        let place = (u64::from(table) * 16_777_216).saturating_add(row);
-        let kind = FaultKind::BadSignature;
-        let wanted = if row == 0 {
-            Ok(())
-        } else {
-            Err(Refusal::Fault(ImageFault { kind, place }))
-        };
-        assert_eq!(rt; check_signatures(rt.alloc(), &tables), wanted);
+        let answer = checked(rt.alloc(), (table, count, rows), blobs)?;
+        assert_eq!(rt; answer, refused(table, row));
     }
     Ok(())
 }
