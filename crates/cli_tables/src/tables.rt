@@ -169,4 +169,11 @@ impl<'a> Tables<'a> {
     {
         blob_in(self.users, index)
     }
+
+    /// The bytes of `#US`, none where there is no such stream. Takes no memory and constant time.
+    pub fn users(&self) -> &'a [u8]
+        ensures { result.now ≡ self.now.users }
+    {
+        self.users
+    }
 }

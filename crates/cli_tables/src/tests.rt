@@ -50,6 +50,7 @@ fn the_smallest_metadata(rt: HostRuntime) -> Result<(), Fail> {
     assert_eq!(rt; tables.blob(4).err(), Some(FaultKind::BadIndex));
     assert_eq!(rt; tables.user_string(0).ok().map(|blob| blob.len()), Some(0));
     assert_eq!(rt; tables.user_string(9).err(), Some(FaultKind::BadIndex));
+    assert_eq!(rt; tables.users().len(), 4);
     Ok(())
 }
 

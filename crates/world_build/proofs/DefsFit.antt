@@ -22,7 +22,7 @@ use Rattle.world_build.specs.Cells.{rows, rows_of, at, coded, owner_of, rows_wit
 use Rattle.world_build.specs.Definitions.{parent_at, parent_of, interfaces_of, def_of}
 use Rattle.world_build.specs.Members.{type_owner}
 use Rattle.world_build.specs.References.{Reader, owner_type, ref_owner, spec_key}
-use Rattle.world_build.specs.Signatures.{types_in, row_types, member_keys, locals_in, listed, local_keys, file_keys}
+use Rattle.world_build.specs.Signatures.{types_in, row_types, owners_in, member_keys, locals_in, listed, local_keys, file_keys}
 use Rattle.world_build.specs.Trees.{tree, type_at_row, coded_type, empty_name}
 use Rattle.world_build.proofs.ListFacts.{all_of_map, all_of_both, all_at_or, both}
 use Rattle.world_build.proofs.MembersFit.{NamesFit, name_fits, formals_of_fit}
@@ -76,7 +76,7 @@ module _ (c : Counts) (w : Reader) (ok : ReaderFits c w) where
   keys_of_arrays (t ∷ ts) all =
       let parts = and_parts (fits c t) (all_fit c ts) all in both _ _ (array_fits c t parts.0) (keys_of_arrays ts parts.1)
 
-  types_in_fit : (table : ℕ) → all_fit c (types_in w table) ≡ true
+  types_in_fit : (table : ℕ) → all_fit c (types_in w.types w.tables table) ≡ true
   unfolding types_in
   types_in_fit table =
       types_fit c w.types ok.types (λ row. type_at_row w.types w.tables (Some (record { table = table; row = row }))) (rows_of w.tables table)
@@ -86,9 +86,15 @@ module _ (c : Counts) (w : Reader) (ok : ReaderFits c w) where
   all_both [] us one other = other
   all_both (t ∷ ts) us one other = let parts = and_parts (fits c t) (all_fit c ts) one in both _ _ parts.0 (all_both ts us parts.1 other)
 
-  row_types_fit : all_fit c (row_types w) ≡ true
+  row_types_fit : all_fit c (row_types w.types w.tables) ≡ true
   unfolding row_types
   row_types_fit = all_both _ _ (all_both _ _ (types_in_fit 0x02) (types_in_fit 0x01)) (types_in_fit 0x1B)
+
+  owners_fit : (column table : ℕ) → all_fit c (owners_in w.types w.tables column table) ≡ true
+  unfolding owners_in
+  owners_fit column table =
+      types_fit c w.types ok.types (λ row. owner_type w.types (owner_of w.tables column table row)) (rows_of w.tables table)
+      (λ row. owner_type_fits c w ok (owner_of w.tables column table row))
 
   member_keys_fit : keys_fit c (member_keys w) ≡ true
   unfolding member_keys
@@ -96,10 +102,8 @@ module _ (c : Counts) (w : Reader) (ok : ReaderFits c w) where
       all_of_both (key_fits c) _ _
       (all_of_both (key_fits c) _ _
       (all_of_both (key_fits c) _ _
-      (all_of_map (key_fits c) (λ row. Tree (owner_type w.types (owner_of w.tables 4 0x04 row))) (rows_of w.tables 0x04)
-      (λ row. owner_type_fits c w ok (owner_of w.tables 4 0x04 row)))
-      (all_of_map (key_fits c) (λ row. Tree (owner_type w.types (owner_of w.tables 5 0x06 row))) (rows_of w.tables 0x06)
-      (λ row. owner_type_fits c w ok (owner_of w.tables 5 0x06 row))))
+      (keys_of_types (owners_in w.types w.tables 4 0x04) (owners_fit 4 0x04))
+      (keys_of_types (owners_in w.types w.tables 5 0x06) (owners_fit 5 0x06)))
       (all_of_map (key_fits c) (λ row. Tree (ref_owner w row)) (rows_of w.tables 0x0A) (ref_owner_fits c w ok)))
       (all_of_map (key_fits c) (spec_key w) (rows_of w.tables 0x2B) (spec_key_fits c w ok))
 
@@ -109,7 +113,7 @@ module _ (c : Counts) (w : Reader) (ok : ReaderFits c w) where
       all_of_both (key_fits c) _ _
       (all_of_map (key_fits c) (λ t. Tree (tree w.types t)) (listed (locals_in w.tables row)) (tree_fits c w.types ok.types)) (local_keys_by rest)
 
-  local_keys_fit : keys_fit c (local_keys w) ≡ true
+  local_keys_fit : keys_fit c (local_keys w.types w.tables) ≡ true
   unfolding local_keys
   local_keys_fit = local_keys_by (rows_of w.tables 0x11)
 
@@ -117,6 +121,6 @@ module _ (c : Counts) (w : Reader) (ok : ReaderFits c w) where
   unfolding file_keys
   file_keys_fit =
       all_of_both (key_fits c) _ _
-      (all_of_both (key_fits c) _ _ (all_of_both (key_fits c) _ _ (keys_of_types (row_types w) row_types_fit) (keys_of_arrays (row_types w) row_types_fit))
+      (all_of_both (key_fits c) _ _ (all_of_both (key_fits c) _ _ (keys_of_types (row_types w.types w.tables) row_types_fit) (keys_of_arrays (row_types w.types w.tables) row_types_fit))
       member_keys_fit)
       local_keys_fit

@@ -98,7 +98,9 @@ module _ (c : Counts) (w : Reader) (ok : ReaderFits c w) where
   unfolding named_owner
   named_owner_fits None = nothing_fits c w.types ok.types false
   named_owner_fits (Some r) =
-      choose (λ t. fits c t ≡ true) (r.table == 0x06) _ _ (λ _. owner_type_fits (owner_of w.tables 5 0x06 r.row))
+      choose (λ t. fits c t ≡ true) (r.table == 0x06) _ _
+      (λ _. choose (λ t. fits c t ≡ true) (nat_le 1 r.row && nat_le r.row (rows w.tables 0x06)) _ _
+      (λ _. owner_type_fits (owner_of w.tables 5 0x06 r.row)) (λ _. nothing_fits c w.types ok.types false))
       (λ _. choose (λ t. fits c t ≡ true) (nat_le 1 r.row && nat_le r.row (rows w.tables 0x0A)) _ _ (λ _. ref_owner_fits r.row)
       (λ _. nothing_fits c w.types ok.types false))
 

@@ -29,7 +29,7 @@ use Rattle.world_build.specs.Members.{file_methods, file_fields}
 use Rattle.world_build.specs.References.{Reader, member_ref, method_spec, impls_of}
 use Rattle.world_build.specs.Resolution.{rows_before}
 use Rattle.world_build.specs.Signatures.{well_known, locals_in, listed, file_keys, row_sigs, locals_before, sigs_in, first_sig, run_at, locals_of}
-use Rattle.world_build.specs.World.{reader, file_defs, world_file, of_bytes, tables_in, no_body, world}
+use Rattle.world_build.specs.World.{reader, file_defs, file_of, world_file, of_bytes, tables_in, no_body, world}
 use Rattle.world_build.specs.WorldNames.{names, file_names, type_rows}
 use Rattle.world_build.proofs.BodiesFit.{body_fits}
 use Rattle.world_build.proofs.CoreFits.{count_of_defs, count_of_methods, defs_fit_all, methods_fit_all, well_known_fit}
@@ -208,12 +208,12 @@ module _ (files : List (List ℕ)) (few : AreFew files) where
     sigs_within = omega (arith, sig_total ts, of_part sigs_in ts k m there)
 
     row_sigs_within : tokens.row_sigs (world_file ts b k m) ≤ sigs_in m
-    unfolding world_file sigs_in row_sigs
+    unfolding reader world_file file_of sigs_in row_sigs
     row_sigs_within =
         omega (arith, length-map-range_with_len (member_ref (reader ts k m)) 1 (rows m 0x0A), length-map-range_with_len (method_spec (reader ts k m)) 1 (rows m 0x2B))
 
     file_good : file_fits c (world_file ts b k m) ≡ true
-    unfolding world_file
+    unfolding reader world_file file_of
     file_good =
         both _ _
         (both _ _
@@ -236,7 +236,7 @@ module _ (files : List (List ℕ)) (few : AreFew files) where
   -- ---- bodies
 
   file_in : (k : ℕ) (b : List ℕ) → slice_get files k ≡ Some b → bytes_of (tokens.file_at world_files (k + 1)) ≡ b
-  unfolding world_file
+  unfolding reader world_file file_of
   file_in k b e = ap bytes_of (file_next world_files k ∙ one_each (λ b k m. world_file ts b k m) 0 files k b e)
 
   bodies_all : list_all (place_fits world_files) (replicate (length core.methods) no_body ++ of_bytes (λ b k m. file_bodies b (k + 1) m) 0 files) ≡ true

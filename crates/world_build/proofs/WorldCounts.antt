@@ -9,13 +9,14 @@ use Rattle.std.proofs.lemmas.List.Sums.{sum_by-cons}
 use Rattle.cli_tables.specs.Metadata.{Metadata}
 use Rattle.type_tree.specs.declared.tree.Key.TheVariants.{Tree}
 use Rattle.type_tree.specs.declared.tree.Ty.TheVariants as ty
+use Rattle.world_build.specs.declared.type_rows.TypeRows.{TypeRows}
 use Rattle.world_build.specs.CoreLibrary as core
 use Rattle.world_build.specs.CoreTable.{core_defs, core_methods}
 use Rattle.world_build.specs.Cells.{rows, rows_of, owner_of}
 use Rattle.world_build.specs.MemberTable.{of_each, member_table}
 use Rattle.world_build.specs.Members.{method_of, field_of, file_methods, file_fields}
 use Rattle.world_build.specs.References.{Reader, owner_type, ref_owner, spec_key}
-use Rattle.world_build.specs.Signatures.{well_known, types_in, row_types, member_keys, locals_in, listed, local_keys, file_keys, row_sigs, locals_before, sigs_in, first_sig}
+use Rattle.world_build.specs.Signatures.{well_known, types_in, row_types, owners_in, member_keys, locals_in, listed, local_keys, file_keys, row_sigs, locals_before, sigs_in, first_sig}
 use Rattle.world_build.specs.Trees.{tree, type_at_row}
 use Rattle.world_build.specs.World.{reader, file_defs}
 use Rattle.world_build.specs.WorldNames.{file_names}
@@ -44,15 +45,19 @@ field_total files =
 
 -- ---- signatures
 
-types_count : (w : Reader) (table : ℕ) → length (types_in w table) ≡ rows w.tables table
+types_count : (w : Reader) (table : ℕ) → length (types_in w.types w.tables table) ≡ rows w.tables table
 unfolding types_in
 types_count w table = length-map-range_with_len _ 1 (rows w.tables table)
 
-row_types_count : (w : Reader) → length (row_types w) ≡ rows w.tables 0x02 + rows w.tables 0x01 + rows w.tables 0x1B
+row_types_count : (w : Reader) → length (row_types w.types w.tables) ≡ rows w.tables 0x02 + rows w.tables 0x01 + rows w.tables 0x1B
 unfolding row_types
 row_types_count w =
-    length-append (types_in w 0x02 ++ types_in w 0x01) (types_in w 0x1B)
-    ∙ ap₂ ◌+◌ (length-append (types_in w 0x02) (types_in w 0x01) ∙ ap₂ ◌+◌ (types_count w 0x02) (types_count w 0x01)) (types_count w 0x1B)
+    length-append (types_in w.types w.tables 0x02 ++ types_in w.types w.tables 0x01) (types_in w.types w.tables 0x1B)
+    ∙ ap₂ ◌+◌ (length-append (types_in w.types w.tables 0x02) (types_in w.types w.tables 0x01) ∙ ap₂ ◌+◌ (types_count w 0x02) (types_count w 0x01)) (types_count w 0x1B)
+
+owners_count : (s : TypeRows) (m : Metadata) (column table : ℕ) → length (map Tree (owners_in s m column table)) ≡ rows m table
+unfolding owners_in
+owners_count s m column table = length-map (owners_in s m column table) Tree ∙ length-map-range_with_len _ 1 (rows m table)
 
 member_keys_count : (w : Reader) → length (member_keys w) ≡ rows w.tables 0x04 + rows w.tables 0x06 + rows w.tables 0x0A + rows w.tables 0x2B
 unfolding member_keys
@@ -61,7 +66,7 @@ member_keys_count w =
     ∙ ap₂ ◌+◌
     (length-append _ _
     ∙ ap₂ ◌+◌
-    (length-append _ _ ∙ ap₂ ◌+◌ (length-map-range_with_len _ 1 (rows w.tables 0x04)) (length-map-range_with_len _ 1 (rows w.tables 0x06)))
+    (length-append _ _ ∙ ap₂ ◌+◌ (owners_count w.types w.tables 4 0x04) (owners_count w.types w.tables 5 0x06))
     (length-map-range_with_len _ 1 (rows w.tables 0x0A)))
     (length-map-range_with_len (spec_key w) 1 (rows w.tables 0x2B))
 
@@ -76,7 +81,7 @@ listed_sum w (row ∷ rest) =
 pub all_taken : (m : Metadata) → take (rows m 0x11) (rows_of m 0x11) ≡ rows_of m 0x11
 all_taken m = ap (λ (n : ℕ). take n (rows_of m 0x11)) (sym (length-range_with_len 1 (rows m 0x11))) ∙ take-length (rows_of m 0x11)
 
-local_keys_count : (w : Reader) → length (local_keys w) ≡ locals_before w.tables (rows w.tables 0x11)
+local_keys_count : (w : Reader) → length (local_keys w.types w.tables) ≡ locals_before w.tables (rows w.tables 0x11)
 unfolding local_keys locals_before
 local_keys_count w =
     listed_sum w (rows_of w.tables 0x11) ∙ ap (sum_by (λ row. length (listed (locals_in w.tables row)))) (sym (all_taken w.tables))
@@ -84,11 +89,11 @@ local_keys_count w =
 pub file_keys_count : (w : Reader) → length (file_keys w) ≡ sigs_in w.tables
 unfolding file_keys sigs_in row_sigs
 file_keys_count w =
-    let types = length-map (row_types w) Tree in
-    let arrays = length-map (row_types w) (λ t. Tree (ty.Array t)) in
-    let one = length-append (map Tree (row_types w)) (map (λ t. Tree (ty.Array t)) (row_types w)) in
-    let two = length-append (map Tree (row_types w) ++ map (λ t. Tree (ty.Array t)) (row_types w)) (member_keys w) in
-    let three = length-append (map Tree (row_types w) ++ map (λ t. Tree (ty.Array t)) (row_types w) ++ member_keys w) (local_keys w) in
+    let types = length-map (row_types w.types w.tables) Tree in
+    let arrays = length-map (row_types w.types w.tables) (λ t. Tree (ty.Array t)) in
+    let one = length-append (map Tree (row_types w.types w.tables)) (map (λ t. Tree (ty.Array t)) (row_types w.types w.tables)) in
+    let two = length-append (map Tree (row_types w.types w.tables) ++ map (λ t. Tree (ty.Array t)) (row_types w.types w.tables)) (member_keys w) in
+    let three = length-append (map Tree (row_types w.types w.tables) ++ map (λ t. Tree (ty.Array t)) (row_types w.types w.tables) ++ member_keys w) (local_keys w.types w.tables) in
     omega (arith, types, arrays, one, two, three, row_types_count w, member_keys_count w, local_keys_count w)
 
 reader_tables : (files : List Metadata) (k : ℕ) (m : Metadata) → (reader files k m).tables ≡ m

@@ -16,6 +16,7 @@ use Rattle.type_tree.specs.contracts.tree.Ty as row-of-ty
 use Rattle.type_tree.specs.Same.{same}
 use Rattle.world_build.specs.declared.member_table.MemberTable.{MemberTable}
 use Rattle.world_build.specs.declared.member_table.Run.{Run}
+pub use Rattle.world_build.specs.declared.open_method.Open.{Open}
 use Rattle.world_build.specs.declared.type_rows.TypeRows.{TypeRows}
 use Rattle.world_build.specs.CoreLibrary as core
 use Rattle.world_build.specs.CoreTable.{core_methods}
@@ -56,18 +57,13 @@ member_table files = record {
 
 -- ---- members by name and signature
 
--- what is compared of a method: its trees are open, in the generic parameters of its definition and its own
-pub record Open : Type 0 where
-  pub has_this : Bool
-  pub vararg : Bool
-  pub generic : ℕ
-  pub types : List Ty
-
+-- what is compared of a method that a signature tells (II.23.2.1, II.23.2.2)
 unfoldable pub open_of : TypeRows → SigMethod → Open
-open_of s m = record { has_this = m.has_this; vararg = m.vararg; generic = m.generic; types = tree s m.ret ∷ trees s m.params }
+open_of s m = record { has_this = m.has_this; vararg = m.vararg; generic = m.generic; ret = tree s m.ret; params = trees s m.params }
 
+-- what is compared of a method of the world
 abbrev pub open_method : Method → ℕ → Open
-open_method m generic = record { has_this = m.has_this; vararg = m.vararg; generic = generic; types = m.ret ∷ m.params }
+open_method m generic = record { has_this = m.has_this; vararg = m.vararg; generic = generic; ret = m.ret; params = m.params }
 
 abbrev pub same_tree : Ty → Ty → Bool
 same_tree = same row-of-ty.the_row.coded
@@ -83,7 +79,9 @@ same_bool false true = false
 same_bool false false = true
 
 abbrev pub same_open : Open → Open → Bool
-same_open a b = same_bool a.has_this b.has_this && same_bool a.vararg b.vararg && a.generic == b.generic && same_trees a.types b.types
+same_open a b =
+    same_bool a.has_this b.has_this && same_bool a.vararg b.vararg && a.generic == b.generic && same_tree a.ret b.ret
+    && same_trees a.params b.params
 
 abbrev pub same_name : NameId → NameId → Bool
 same_name a b = a.0 == b.0

@@ -109,13 +109,16 @@ named_member w (Some r) = if r.table == 0x06 then def_member w r.row else ref_me
 abbrev pub owner_type : TypeRows → ℕ → Ty
 owner_type s def = def_type s [] false def
 
+abbrev pub def_owner : Reader → ℕ → Ty
+def_owner w row = if nat_le 1 row && nat_le row (rows w.tables 0x06) then owner_type w.types (owner_of w.tables 5 0x06 row) else nothing false
+
 abbrev pub ref_owner_or_none : Reader → ℕ → Ty
 ref_owner_or_none w row = if nat_le 1 row && nat_le row (rows w.tables 0x0A) then ref_owner w row else nothing false
 
 -- the type that owns the member
 unfoldable pub named_owner : Reader → Option RowOf → Ty
 named_owner w None = nothing false
-named_owner w (Some r) = if r.table == 0x06 then owner_type w.types (owner_of w.tables 5 0x06 r.row) else ref_owner_or_none w r.row
+named_owner w (Some r) = if r.table == 0x06 then def_owner w r.row else ref_owner_or_none w r.row
 
 abbrev pub method_only : Member → Option MethId
 method_only (member.Method m) = Some m

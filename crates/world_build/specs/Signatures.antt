@@ -12,6 +12,7 @@ use Rattle.type_tree.specs.declared.tree.Key.TheVariants.{Tree, Meth}
 use Rattle.type_tree.specs.declared.tree.Ty.{Ty}
 use Rattle.type_tree.specs.declared.tree.Ty.TheVariants as ty
 use Rattle.world_build.specs.declared.core_type.CoreType.TheVariants.{String, TypeObject}
+use Rattle.world_build.specs.declared.type_rows.TypeRows.{TypeRows}
 use Rattle.world_build.specs.CoreLibrary.{plain}
 use Rattle.world_build.specs.Cells.{rows, rows_of, blob, owner_of}
 use Rattle.world_build.specs.Trees.{tree, row_counts, value_or, type_at_row}
@@ -24,17 +25,21 @@ well_known = Tree (plain String) ∷ Tree (plain TypeObject) ∷ Tree (ty.Array 
 -- ---- the signatures of a file
 
 -- the type of each row of a table of types
-unfoldable pub types_in : Reader → ℕ → List Ty
-types_in w table = map (λ row. type_at_row w.types w.tables (Some (record { table = table; row = row }))) (rows_of w.tables table)
+unfoldable pub types_in : TypeRows → Metadata → ℕ → List Ty
+types_in s m table = map (λ row. type_at_row s m (Some (record { table = table; row = row }))) (rows_of m table)
 
-unfoldable pub row_types : Reader → List Ty
-row_types w = types_in w 0x02 ++ types_in w 0x01 ++ types_in w 0x1B
+unfoldable pub row_types : TypeRows → Metadata → List Ty
+row_types s m = types_in s m 0x02 ++ types_in s m 0x01 ++ types_in s m 0x1B
+
+-- the type that owns each row of a table, by the column of TypeDef that has the first row of a run
+unfoldable pub owners_in : TypeRows → Metadata → ℕ → ℕ → List Ty
+owners_in s m column table = map (λ row. owner_type s (owner_of m column table row)) (rows_of m table)
 
 -- the owner's type of each row of a table of members; a MethodSpec row has its method's key
 unfoldable pub member_keys : Reader → List Key
 member_keys w =
-    map (λ row. Tree (owner_type w.types (owner_of w.tables 4 0x04 row))) (rows_of w.tables 0x04)
-    ++ map (λ row. Tree (owner_type w.types (owner_of w.tables 5 0x06 row))) (rows_of w.tables 0x06)
+    map Tree (owners_in w.types w.tables 4 0x04)
+    ++ map Tree (owners_in w.types w.tables 5 0x06)
     ++ map (λ row. Tree (ref_owner w row)) (rows_of w.tables 0x0A)
     ++ map (spec_key w) (rows_of w.tables 0x2B)
 
@@ -48,12 +53,14 @@ abbrev pub listed : Option (List SigTy) → List SigTy
 listed None = []
 listed (Some ts) = ts
 
-unfoldable pub local_keys : Reader → List Key
-local_keys w = flat_map (λ row. map (λ t. Tree (tree w.types t)) (listed (locals_in w.tables row))) (rows_of w.tables 0x11)
+unfoldable pub local_keys : TypeRows → Metadata → List Key
+local_keys s m = flat_map (λ row. map (λ t. Tree (tree s t)) (listed (locals_in m row))) (rows_of m 0x11)
 
 -- the types of the rows, the arrays of these, the members, the local variables
 unfoldable pub file_keys : Reader → List Key
-file_keys w = map Tree (row_types w) ++ map (λ t. Tree (ty.Array t)) (row_types w) ++ member_keys w ++ local_keys w
+file_keys w =
+    map Tree (row_types w.types w.tables) ++ map (λ t. Tree (ty.Array t)) (row_types w.types w.tables) ++ member_keys w
+    ++ local_keys w.types w.tables
 
 -- ---- where they stand
 

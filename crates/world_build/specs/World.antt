@@ -38,24 +38,29 @@ file_defs files k m =
 
 -- ---- files
 
-unfoldable pub world_file : List Metadata → List ℕ → ℕ → Metadata → WorldFile
-world_file files bytes k m = record {
-  first_sig = record { 0 = first_sig files k };
-  type_defs = rows m 0x02;
-  type_refs = rows m 0x01;
-  type_specs = rows m 0x1B;
-  first_field = record { 0 = rows_before files k 0x04 };
-  fields = rows m 0x04;
-  loose_fields = loose m 4 0x04;
-  first_method = record { 0 = core_methods + rows_before files k 0x06 };
-  methods = rows m 0x06;
-  loose_methods = loose m 5 0x06;
-  member_refs = map (member_ref (reader files k m)) (rows_of m 0x0A);
-  method_specs = map (method_spec (reader files k m)) (rows_of m 0x2B);
-  locals = locals_of m (first_sig files k);
-  users = m.users;
+-- a file with these bytes, whose rows are read so, by the numbers of its first signature, field and method
+unfoldable pub file_of : Reader → List ℕ → ℕ → ℕ → ℕ → WorldFile
+file_of w bytes sig field method = record {
+  first_sig = record { 0 = sig };
+  type_defs = rows w.tables 0x02;
+  type_refs = rows w.tables 0x01;
+  type_specs = rows w.tables 0x1B;
+  first_field = record { 0 = field };
+  fields = rows w.tables 0x04;
+  loose_fields = loose w.tables 4 0x04;
+  first_method = record { 0 = method };
+  methods = rows w.tables 0x06;
+  loose_methods = loose w.tables 5 0x06;
+  member_refs = map (member_ref w) (rows_of w.tables 0x0A);
+  method_specs = map (method_spec w) (rows_of w.tables 0x2B);
+  locals = locals_of w.tables sig;
+  users = w.tables.users;
   bytes = bytes;
 }
+
+unfoldable pub world_file : List Metadata → List ℕ → ℕ → Metadata → WorldFile
+world_file files bytes k m =
+    file_of (reader files k m) bytes (first_sig files k) (rows_before files k 0x04) (core_methods + rows_before files k 0x06)
 
 -- ---- the whole
 

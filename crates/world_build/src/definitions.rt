@@ -120,8 +120,8 @@ pub fn place_of(tables: &Tables<'_>, field_layouts: &RowIndex, row: u32) -> Opti
 /// The run of the definition in a TypeDef row, where files before its own have so many fields and methods.
 #[tactic(auto, unfolding(crate::specs::MemberTable::run_at, cli_tables::specs::Schema::columns))]
 pub fn run_of(tables: &Tables<'_>, fields_before: u32, methods_before: u32, row: u32) -> Run
-    requires fields { fields_before ≤ 16777215 }
-    requires methods { methods_before ≤ 16777215 }
+    requires fields { fields_before ≤ 268435440 }
+    requires methods { methods_before ≤ 268435440 }
     requires first { 1 ≤ row }
     requires last { row ≤ row_count tables.now.tables 0x02 }
     ensures { result ≡ run_at fields_before methods_before tables.now row }

@@ -51,7 +51,7 @@ pub struct FileMembers {
 }
 
 /// What stands for a method's signature where the blob is none.
-fn no_method(alloc: Global) -> SigMethod
+pub(crate) fn no_method(alloc: Global) -> SigMethod
     ensures { result ≡ spec.no_method }
 {
     SigMethod {

@@ -17,10 +17,10 @@ use std::alloc::Global;
 use type_tree::{Ty, TyList};
 
 /// The table TypeRef (ECMA-335 II.22.38).
-const TYPE_REF: u8 = 0x01;
+pub(crate) const TYPE_REF: u8 = 0x01;
 
 /// The table TypeSpec (II.22.39).
-const TYPE_SPEC: u8 = 0x1b;
+pub(crate) const TYPE_SPEC: u8 = 0x1b;
 
 /// The number of the empty name, which stands behind the names of the core.
 pub(crate) const EMPTY_NAME: NameId = NameId(52);

@@ -1,0 +1,8 @@
+use Rattle.std.proofs.Common.{◌≡◌, ◌++◌, map, Some}
+use Rattle.std.specs.List.{range_with_len}
+use Rattle.type_tree.specs.declared.tree.Key.TheVariants as key
+use Rattle.world_build.specs.Trees.{type_at_row}
+use Rattle.world_build.proofs.row_signatures.push_types.Given as goal
+
+abbrev pub invariant-loop-row : goal.invariant-loop-row
+invariant-loop-row l = l.keys ≡ l.fn.keys ++ map (λ row. key.Tree (type_at_row l.types l.tables (Some (record { table = l.table; row = row })))) (range_with_len 1 l.row)

@@ -1,0 +1,68 @@
+-- The members of each definition by their names, as an index has them.
+use Rattle.std.specs.Prelude.{◌≡◌, ℕ, ◌<◌, ◌^◌, Bool, false, List, [], map, length, filter, get_or, slice_get}
+use Rattle.std.specs.Option.{option_map_or}
+use Rattle.std.specs.List.{range_with_len}
+use Rattle.clr_base.specs.declared.ids.NameId.{NameId}
+use Rattle.type_tree.specs.declared.tree.Ty.{Ty}
+use Rattle.world_build.specs.declared.member_groups.MemberGroups.{MemberGroups}
+use Rattle.world_build.specs.declared.member_index.MemberIndex.{MemberIndex}
+use Rattle.world_build.specs.declared.member_table.MemberTable.{MemberTable}
+use Rattle.world_build.specs.MemberTable.{Open, open_method, same_name, same_open, same_tree}
+use Rattle.world_build.specs.RowIndexes.{rows_at}
+
+-- ---- the members of one run
+
+abbrev pub has_name : List NameId → NameId → ℕ → Bool
+has_name names name i = option_map_or (λ n. same_name n name) (slice_get names i) false
+
+-- those of a run that have a name, in order; none where the run goes past the last one
+abbrev pub named : List NameId → ℕ → ℕ → NameId → List ℕ
+named names first count name = filter (has_name names name) (range_with_len first count)
+
+-- those that stand in a group at a name
+abbrev pub at_name : MemberGroups → NameId → List ℕ
+at_name groups name = rows_at groups.by_name name.0
+
+-- at each name the groups have the members of a run that have it
+pub record AreGroups (names : List NameId) (first count : ℕ) (groups : MemberGroups) : Type 0 where
+  pub each : (name : NameId) → at_name groups name ≡ named names first count name
+
+-- ---- the members of all definitions
+
+abbrev pub method_names : MemberTable → List NameId
+method_names w = map (λ m. m.name) w.methods
+
+abbrev pub field_names : MemberTable → List NameId
+field_names w = map (λ f. f.name) w.fields
+
+-- those of a definition in a list of groups, of which each definition has one
+abbrev pub of_def : List MemberGroups → ℕ → NameId → List ℕ
+of_def groups d name = option_map_or (λ g. at_name g name) (slice_get groups d) []
+
+abbrev pub named_methods : MemberTable → ℕ → NameId → List ℕ
+named_methods w d name = option_map_or (λ r. named (method_names w) r.first_method r.methods name) (slice_get w.runs d) []
+
+abbrev pub named_fields : MemberTable → ℕ → NameId → List ℕ
+named_fields w d name = option_map_or (λ r. named (field_names w) r.first_field r.fields name) (slice_get w.runs d) []
+
+-- An index has the own members of each definition of a table by their names.
+pub record IsIndexOf (w : MemberTable) (index : MemberIndex) : Type 0 where
+  pub methods : (d : ℕ) (name : NameId) → of_def index.methods d name ≡ named_methods w d name
+  pub fields : (d : ℕ) (name : NameId) → of_def index.fields d name ≡ named_fields w d name
+
+-- ---- those that are looked for among them
+
+-- whether the method with a number has a signature
+abbrev pub is_wanted : MemberTable → Open → ℕ → Bool
+is_wanted w wanted i = option_map_or (λ m. same_open (open_method m (get_or w.generics i 0)) wanted) (slice_get w.methods i) false
+
+-- whether the field with a number has a type
+abbrev pub has_type : MemberTable → Ty → ℕ → Bool
+has_type w t i = option_map_or (λ f. same_tree f.ty t) (slice_get w.fields i) false
+
+-- ---- how many there may be
+
+-- the numbers of the members fit 32 bits
+pub record AreFew (w : MemberTable) : Type 0 where
+  pub methods : length w.methods < 2 ^ 32
+  pub fields : length w.fields < 2 ^ 32

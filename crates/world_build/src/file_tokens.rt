@@ -1,0 +1,95 @@
+//! What a world keeps of a file: where its rows are numbered, and what they name.
+ghost use Rattle.std.specs.Prelude.{◌≡◌, map, IfOk};
+ghost use Rattle.world_build.specs.Cells.{rows_of};
+ghost use Rattle.world_build.specs.References as references;
+ghost use Rattle.world_build.specs.Signatures.{locals_of};
+ghost use Rattle.world_build.specs.World as spec;
+
+use crate::owners::loose;
+use crate::method_specs::method_spec;
+use crate::reader::Reader;
+use crate::references::member_ref;
+use crate::rows::{METHOD_DEF, TYPE_DEF};
+use clr_base::{Bytes, FieldId, Memory, MethId, SigId};
+use sqlite_items::Items;
+use std::alloc::Global;
+use type_tree::{Locals, Member, WorldFile};
+
+/// The tables TypeRef (ECMA-335 II.22.38), TypeSpec (II.22.39), Field (II.22.15), MemberRef (II.22.25), MethodSpec (II.22.29).
+const TYPE_REF: u8 = 0x01;
+
+const TYPE_SPEC: u8 = 0x1b;
+
+const FIELD: u8 = 0x04;
+
+const MEMBER_REF: u8 = 0x0a;
+
+const METHOD_SPEC: u8 = 0x2b;
+
+/// The columns of TypeDef with the first rows of a definition's fields and methods (II.22.37).
+const FIELD_LIST: u8 = 4;
+
+const METHOD_LIST: u8 = 5;
+
+/// The numbers of a file's first signature, field and method.
+#[derive(Clone, Copy, Debug, PartialEq, Eq)]
+pub struct Firsts {
+    pub sig: u32,
+    pub field: u32,
+    pub method: u32,
+}
+
+/// The member of each MemberRef row.
+fn member_refs(alloc: Global, reader: &Reader<'_, '_>) -> Result<Items<Member>, Memory>
+    ensures { IfOk result (λ found. found ≡ map (references.member_ref reader.now) (rows_of reader.now.tables 0x0A)) }
+{
+    let mut found = Items::new(alloc);
+    for row in 0..reader.tables().row_count(MEMBER_REF) {
+        found.push(member_ref(alloc, reader, row + 1)?)?;
+    }
+    Ok(found)
+}
+
+/// The method of each MethodSpec row, as a member.
+fn method_specs(alloc: Global, reader: &Reader<'_, '_>) -> Result<Items<Member>, Memory>
+    ensures { IfOk result (λ found. found ≡ map (references.method_spec reader.now) (rows_of reader.now.tables 0x2B)) }
+{
+    let mut found = Items::new(alloc);
+    for row in 0..reader.tables().row_count(METHOD_SPEC) {
+        found.push(method_spec(alloc, reader, row + 1)?)?;
+    }
+    Ok(found)
+}
+
+/// What is kept of a file with these bytes, by the numbers of its first rows and where its local variables stand. Takes
+/// memory for the file's bytes and a few numbers a row.
+#[tactic(auto, unfolding(crate::specs::World::file_of, cli_tables::specs::Schema::columns))]
+pub fn file_tokens(
+    alloc: Global,
+    reader: &Reader<'_, '_>,
+    bytes: &[u8],
+    firsts: Firsts,
+    locals: Items<Option<Locals>>,
+) -> Result<WorldFile, Memory>
+    requires { locals ≡ locals_of reader.now.tables firsts.sig }
+    ensures { IfOk result (λ file. file ≡ spec.file_of reader.now bytes.now firsts.sig firsts.field firsts.method) }
+{
+    let tables = reader.tables();
+    Ok(WorldFile {
+        first_sig: SigId(firsts.sig),
+        type_defs: tables.row_count(TYPE_DEF),
+        type_refs: tables.row_count(TYPE_REF),
+        type_specs: tables.row_count(TYPE_SPEC),
+        first_field: FieldId(firsts.field),
+        fields: tables.row_count(FIELD),
+        loose_fields: loose(tables, FIELD_LIST, FIELD),
+        first_method: MethId(firsts.method),
+        methods: tables.row_count(METHOD_DEF),
+        loose_methods: loose(tables, METHOD_LIST, METHOD_DEF),
+        member_refs: member_refs(alloc, reader)?,
+        method_specs: method_specs(alloc, reader)?,
+        locals,
+        users: Bytes::from_slice(alloc, tables.users())?,
+        bytes: Bytes::from_slice(alloc, bytes)?,
+    })
+}

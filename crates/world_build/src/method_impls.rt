@@ -1,0 +1,77 @@
+//! The methods that MethodImpl rows put in the place of others (ECMA-335 II.22.27).
+ghost use Rattle.std.specs.Prelude.{◌≡◌, ◌<◌, ◌≤◌, map, IfOk};
+ghost use Rattle.cli_tables.specs.Layout.{row_count};
+ghost use Rattle.world_build.specs.References as spec;
+ghost use Rattle.world_build.specs.RowIndexes.{AreRows, Indexes};
+
+use crate::cells::{RowOf, coded};
+use crate::file_rows::METHOD_IMPL;
+use crate::named_members::{method_only, named_member, named_owner};
+use crate::reader::Reader;
+use crate::row_index::RowIndex;
+use cli_tables::CodedIndex;
+use clr_base::Memory;
+use sqlite_items::Items;
+use std::alloc::Global;
+use type_tree::Impl;
+
+/// The columns MethodBody and MethodDeclaration of MethodImpl.
+const METHOD_BODY: u8 = 1;
+
+const METHOD_DECLARATION: u8 = 2;
+
+/// The row that has the method in a column, MethodBody or MethodDeclaration, of a MethodImpl row.
+#[tactic(auto, unfolding(cli_tables::specs::Schema::columns))]
+fn impl_member(reader: &Reader<'_, '_>, row: u32, column: u8) -> Option<RowOf>
+    requires first { 1 ≤ row }
+    requires last { row ≤ row_count reader.now.tables.tables 0x19 }
+    requires column { column < 3 }
+    ensures { result ≡ spec.impl_member reader.now row column }
+{
+    let index = reader.tables().cell(METHOD_IMPL, row, column);
+    coded(CodedIndex::MethodDefOrRef, index)
+}
+
+/// The body and the declaration in a MethodImpl row.
+#[tactic(auto, unfolding(crate::specs::References::impl_of))]
+pub fn impl_of(alloc: Global, reader: &Reader<'_, '_>, row: u32) -> Result<Impl, Memory>
+    requires first { 1 ≤ row }
+    requires last { row ≤ row_count reader.now.tables.tables 0x19 }
+    ensures { IfOk result (λ found. found ≡ spec.impl_of reader.now row) }
+{
+    let body = impl_member(reader, row, METHOD_BODY);
+    let declaration = impl_member(reader, row, METHOD_DECLARATION);
+    Ok(Impl {
+        body: method_only(named_member(alloc, reader, body)?),
+        owner: named_owner(alloc, reader, declaration)?,
+        declaration: method_only(named_member(alloc, reader, declaration)?),
+    })
+}
+
+/// The bodies and the declarations in some MethodImpl rows.
+fn impls_in(alloc: Global, reader: &Reader<'_, '_>, rows: &[u32]) -> Result<Items<Impl>, Memory>
+    requires { AreRows reader.now.tables 0x19 rows.now }
+    ensures { IfOk result (λ impls. impls ≡ map (spec.impl_of reader.now) rows.now) }
+{
+    let mut impls = Items::new(alloc);
+    for row in rows {
+        impls.push(impl_of(alloc, reader, *row)?)?;
+    }
+    Ok(impls)
+}
+
+/// Those of the definition in a TypeDef row, in order, given an index of MethodImpl rows by their class. Takes memory and
+/// time in these rows and in the signatures that they name.
+#[tactic(auto, unfolding(crate::specs::References::impls_of))]
+pub fn impls_of(
+    alloc: Global,
+    reader: &Reader<'_, '_>,
+    method_impls: &RowIndex,
+    row: u32,
+) -> Result<Items<Impl>, Memory>
+    requires { Indexes reader.now.tables 0x19 0 method_impls.now }
+    ensures { IfOk result (λ impls. impls ≡ spec.impls_of reader.now row) }
+{
+    let rows = method_impls.rows(row);
+    impls_in(alloc, reader, rows)
+}
