@@ -1,8 +1,8 @@
 -- The parts of an entry's word, and the first entry among a definition's methods.
-use Rattle.std.proofs.Common.{◌≡◌, ℕ, zero, suc, ◌+◌, ◌-◌, ◌<◌, ◌≤◌, Bool, true, false, cond, List, [], ◌∷◌, ◌++◌, codes, length, take, drop, Option, Some, None, slice_get, IsTrue, refl, sym, ap, ◌∙◌, subst, arith}
+use Rattle.std.proofs.Common.{◌≡◌, ℕ, suc, ◌+◌, ◌-◌, ◌<◌, ◌≤◌, Bool, true, false, cond, List, ◌++◌, codes, length, take, drop, Option, Some, None, slice_get, IsTrue, sym, ap, ◌∙◌, arith}
 use Rattle.std.specs.Prelude.{MatchOption}
 use Rattle.std.specs.List.{find, range_with_len}
-use Rattle.std.specs.Option.{option_map, IfSome, IfNone}
+use Rattle.std.specs.Option.{IfSome, IfNone}
 use Rattle.std.specs.Str.Pattern.{LacksTextAt, HasTextAt, RFindsText, SplitsAroundMatch}
 use Rattle.std.proofs.Math.Seq.{drop-append_seam}
 use Rattle.std.proofs.lemmas.Bool.{and_parts, leb-true}

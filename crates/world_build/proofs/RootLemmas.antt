@@ -1,19 +1,12 @@
 -- What a root word names is one thing, and its numbers are a world's.
-use Rattle.std.proofs.Common.{◌≡◌, ℕ, zero, suc, ◌+◌, ◌-◌, ◌<◌, ◌≤◌, ◌⊎◌, inl, inr, Bool, true, false, cond, List, [], ◌∷◌, ◌++◌, codes, length, take, drop, Option, Some, None, slice_get, IsTrue, refl, sym, ap, ◌∙◌, subst, arith, option_map}
-use Rattle.std.specs.List.{find}
-use Rattle.std.specs.Str.Pattern.{LacksTextAt}
-use Rattle.std.proofs.Math.Seq.{drop-append_seam, drop-append-add, take-append_seam}
-use Rattle.std.proofs.lemmas.Bool.{lt-ltb}
+use Rattle.std.proofs.Common.{◌≡◌, ℕ, ◌<◌, ◌≤◌, ◌⊎◌, inl, inr, true, false, List, ◌++◌, codes, length, take, drop, Option, Some, None, slice_get, IsTrue, refl, sym, ap, ◌∙◌, subst, arith}
+use Rattle.std.proofs.Math.Seq.{drop-append_seam, take-append_seam}
 use Rattle.std.proofs.lemmas.List.{length-append}
 use Rattle.clr_base.specs.declared.ids.DefId.{DefId}
-use Rattle.clr_base.specs.declared.ids.MethId.{MethId}
 use Rattle.type_tree.specs.declared.definition.Def.{Def}
-use Rattle.type_tree.specs.declared.definition.Method.{Method}
 use Rattle.type_tree.specs.declared.tree.Ty.{Ty}
-use Rattle.type_tree.specs.declared.tree.Ty.TheOpen.{Ty-F}
-use Rattle.type_tree.specs.declared.tree.Ty.TheViews.{out-Ty}
 use Rattle.type_tree.specs.World.{Facts}
-use Rattle.type_tree.specs.Fits.{fits, all_fit, method_is_below}
+use Rattle.type_tree.specs.Fits.{fits, all_fit}
 use Rattle.type_tree.specs.Lookup.{name_of, full_name, first_named}
 use Rattle.type_tree.specs.ReadTexts.{is_name, Names, NamesArguments, NamesMore, Reads}
 use Rattle.type_tree.specs.ReadTexts as texts
@@ -21,11 +14,9 @@ use Rattle.type_tree.specs.Whole.{counts}
 use Rattle.type_tree.proofs.GrammarLemmas.{names_one}
 use Rattle.type_tree.proofs.LookupLemmas.{first_named-name}
 use Rattle.world_build.specs.declared.roots.NamedRoot.{NamedRoot}
-use Rattle.world_build.specs.declared.roots.RootForm.{RootForm}
-use Rattle.world_build.specs.declared.roots.RootForm.TheVariants.{Types, Entries}
-use Rattle.world_build.specs.Entries.{IsParted, is_entry_at, own_methods, meth_id, entry_in, entry_at, entry_of}
-use Rattle.world_build.specs.Roots.{NamesType, NamesEntry, NamesRoot, NameRoots}
-use Rattle.world_build.proofs.ListFacts.{both, found_passes, there_is}
+use Rattle.world_build.specs.Entries.{IsParted, entry_of}
+use Rattle.world_build.specs.Roots.{NamesEntry}
+use Rattle.world_build.proofs.ListFacts.{both, there_is}
 use Rattle.world_build.proofs.TreesFit.{inst_fits, array_fits}
 
 -- ---- a word has one last `::`

@@ -1,8 +1,7 @@
 -- Roots that are gathered word by word, and the world that gets them.
-use Rattle.std.proofs.Common.{◌≡◌, ℕ, zero, suc, ◌+◌, ◌<◌, ◌≤◌, Bool, true, false, List, [], ◌∷◌, ◌++◌, map, take, drop, length, get_or, append_assoc, Option, Some, None, option_map, slice_get, refl, sym, ap, ap₂, ◌∙◌, subst, arith}
-use Rattle.std.specs.List.{find}
+use Rattle.std.proofs.Common.{◌≡◌, ℕ, suc, ◌+◌, ◌<◌, ◌≤◌, true, List, [], ◌∷◌, ◌++◌, map, take, drop, length, get_or, append_assoc, Option, Some, None, option_map, slice_get, refl, sym, ap, ap₂, ◌∙◌, subst, arith}
 use Rattle.std.proofs.lemmas.Bool.{lt-ltb}
-use Rattle.std.proofs.lemmas.List.{take-append-drop, take-map, map_more, map-append, length-append, length-map, length-take-le}
+use Rattle.std.proofs.lemmas.List.{take-append-drop, take-map, map_more, map-append}
 use Rattle.clr_base.specs.declared.ids.DefId.{DefId}
 use Rattle.clr_base.specs.declared.ids.MethId.{MethId}
 use Rattle.type_tree.specs.declared.definition.Method.{Method}

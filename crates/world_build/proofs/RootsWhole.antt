@@ -1,10 +1,9 @@
 -- A world with further roots is whole: no number is judged by how many signatures there are but those of signatures.
-use Rattle.std.proofs.Common.{◌≡◌, ℕ, zero, suc, ◌+◌, ◌<◌, ◌≤◌, Bool, true, false, List, [], ◌∷◌, ◌++◌, map, length, Option, Some, None, IsTrue, refl, sym, ap, ap₂, ◌∙◌, subst, arith}
-use Rattle.std.specs.Prelude.{◌&&◌, nat_eq, nat_lt, nat_le}
+use Rattle.std.proofs.Common.{◌≡◌, ℕ, suc, ◌+◌, ◌<◌, ◌≤◌, Bool, true, List, [], ◌∷◌, ◌++◌, map, length, Option, Some, None, refl, sym, ap, ap₂, ◌∙◌, arith}
+use Rattle.std.specs.Prelude.{◌&&◌, nat_lt, nat_le}
 use Rattle.std.specs.List.{list_all}
 use Rattle.std.proofs.lemmas.Bool.{and_parts, lt-ltb, ltb-true, le-leb, leb-true}
 use Rattle.std.proofs.lemmas.List.{length-append, length-map}
-use Rattle.clr_base.specs.declared.ids.DefId.{DefId}
 use Rattle.clr_base.specs.declared.ids.MethId.{MethId}
 use Rattle.type_tree.specs.declared.counts.Counts.{Counts}
 use Rattle.type_tree.specs.declared.definition.Def.{Def}
@@ -20,13 +19,12 @@ use Rattle.type_tree.specs.declared.parts.WorldFile.{WorldFile}
 use Rattle.type_tree.specs.declared.tree.Key.{Key}
 use Rattle.type_tree.specs.declared.tree.Key.TheVariants.{Tree, Meth}
 use Rattle.type_tree.specs.declared.tree.Ty.{Ty}
-use Rattle.type_tree.specs.declared.tree.Ty.TheVariants as ty
 use Rattle.type_tree.specs.World.{Facts}
-use Rattle.type_tree.specs.Fits.{fits, fits_step, all_fit, key_fits, parent_fits, method_is_below, formal_fits, formals_fit, impl_fits, impls_fit, is_within, def_fits, method_fits, field_fits}
+use Rattle.type_tree.specs.Fits.{fits, fits_step, all_fit, key_fits, parent_fits, method_is_below, formals_fit, impl_fits, impls_fit, is_within, def_fits, method_fits, field_fits}
 use Rattle.type_tree.specs.Tokens.{row_sigs}
-use Rattle.type_tree.specs.Whole.{counts, most, has_few, things_fit, files_fit, root_fits, member_fits, members_fit, locals_fit, lists_fit, file_fits, is_whole, IsWhole}
-use Rattle.type_tree.proofs.Folds.{Known, Cases, trees, by_variants, fold-Inst, fold-Array, fold-ByRef, fold-Ptr, fold-Var, fold-MVar, fold-Missing, fold-Odd}
-use Rattle.type_tree.proofs.WholeLemmas.{few, parts, things}
+use Rattle.type_tree.specs.Whole.{counts, most, has_few, things_fit, files_fit, root_fits, member_fits, locals_fit, file_fits, is_whole, IsWhole}
+use Rattle.type_tree.proofs.Folds.{Known, trees, by_variants, fold-Inst, fold-Array, fold-ByRef, fold-Ptr, fold-Var, fold-MVar, fold-Missing, fold-Odd}
+use Rattle.type_tree.proofs.WholeLemmas.{parts, things}
 use Rattle.world_build.specs.declared.roots.NamedRoot.{NamedRoot}
 use Rattle.world_build.specs.Roots.{root_key, roots_from, world_with}
 use Rattle.world_build.proofs.ListFacts.{both, all_of_both}

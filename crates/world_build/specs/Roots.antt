@@ -1,5 +1,5 @@
 -- What root words name in a world, and the world with these roots.
-use Rattle.std.specs.Prelude.{◌≡◌, ℕ, ◌+◌, List, [], ◌∷◌, ◌++◌, map, length, Option, None, Some, Result, Ok, Err}
+use Rattle.std.specs.Prelude.{◌≡◌, ℕ, ◌+◌, List, [], ◌∷◌, ◌++◌, map, length, None, Some}
 use Rattle.clr_base.specs.declared.ids.MethId.{MethId}
 use Rattle.type_tree.specs.declared.parts.Root.{Root}
 use Rattle.type_tree.specs.declared.parts.WorldParts.{WorldParts}

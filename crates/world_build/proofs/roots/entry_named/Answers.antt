@@ -1,7 +1,7 @@
-use Rattle.std.proofs.Common.{◌≡◌, ◌∙◌, sym, Some, None}
+use Rattle.std.proofs.Common.{◌∙◌, sym}
 use Rattle.type_tree.specs.declared.tree.Ty.{Ty}
 use Rattle.type_tree.specs.ReadTexts.{Reads}
-use Rattle.world_build.specs.Entries.{IsParted, entry_of}
+use Rattle.world_build.specs.Entries.{IsParted}
 use Rattle.world_build.proofs.RootLemmas.{no_owner, no_entry}
 use Rattle.world_build.proofs.roots.entry_named.Goals as goal
 

@@ -1,8 +1,8 @@
-use Rattle.std.proofs.Common.{◌≡◌, ◌∙◌, ◌+◌, ◌≤◌, List, ℕ, map, length, sym, subst, arith}
+use Rattle.std.proofs.Common.{map, sym, subst, arith}
 use Rattle.std.specs.Prelude.{string_bytes}
 use Rattle.std.proofs.lemmas.List.{length-map}
 use Rattle.world_build.specs.Roots.{HasRoots}
-use Rattle.world_build.proofs.RootsGathered.{put_in, made_has, made_whole}
+use Rattle.world_build.proofs.RootsGathered.{made_has, made_whole}
 use Rattle.world_build.proofs.roots.with_roots.Goals as goal
 
 pub new-requires : goal.new-requires
