@@ -102,7 +102,6 @@ module _ {X : Type 0} (p : X → Bool) where
       let at = none_len xs d none in
       sym (ap (λ (n : ℕ). cond (nat_lt n (length xs)) (Some n) None) at ∙ ap (λ (b : Bool). cond b (Some (length xs)) None) (not_below (length xs)))
 
-
 -- the files before one have other names
 abbrev pub AreOthers : List (List ℕ) → List Metadata → List FileTexts → NameId → ℕ → Type 0
 AreOthers names files texts id n = (a : List ℕ) (d : Metadata) (k : ℕ) → id ≡ id_in names a → k < n → has_name a (get_or files k d) ≡ false

@@ -39,9 +39,10 @@ number_is (n ∷ names) t s among same = both_sides n t s names (bytes_eq t n) (
 
 pub same_number : (names : List (List ℕ)) (t s : List ℕ) → list_any (bytes_eq t) names ≡ true → bytes_eq t s ≡ eqb (number_in names s) (number_in names t)
 same_number names t s among =
-    same_from_decides (bytes_eq t s) (eqb (number_in names s) (number_in names t)) (bytes_eq-Decides t s)
-    ((λ h. number_is names t s among (sym (eqb-true (number_in names s) (number_in names t) h))),
-    (λ e. eq-eqb (number_in names s) (number_in names t) (ap (number_in names) (sym e))))
+    same_from_decides (bytes_eq t s) (eqb (number_in names s) (number_in names t)) (bytes_eq-Decides t s) (
+      (λ h. number_is names t s among (sym (eqb-true (number_in names s) (number_in names t) h))),
+      (λ e. eq-eqb (number_in names s) (number_in names t) (ap (number_in names) (sym e))),
+    )
 
 -- ---- the text at a place
 

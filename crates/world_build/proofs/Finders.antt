@@ -145,9 +145,10 @@ defs_found names files texts defs are found = record {
 -- ---- the core
 
 pub core_counts : (names : List (List ℕ)) (c : CoreTexts) → AreCoreTexts names c → (length c.types.namespaces ≡ 36) × (length c.types.names ≡ 36)
-core_counts names c are =
-    (numbers_count names (in_order core_namespace 36) c.types.namespaces are.types.namespaces ∙ length-map-range_with_len core_namespace 0 36,
-    numbers_count names (in_order core_type_name 36) c.types.names are.types.names ∙ length-map-range_with_len core_type_name 0 36)
+core_counts names c are = (
+  numbers_count names (in_order core_namespace 36) c.types.namespaces are.types.namespaces ∙ length-map-range_with_len core_namespace 0 36,
+  numbers_count names (in_order core_type_name 36) c.types.names are.types.names ∙ length-map-range_with_len core_type_name 0 36,
+)
 
 pub core_finds : (names : List (List ℕ)) (c : CoreTexts) (p : FirstPlaces) → AreCoreTexts names c → Finds (keys_of (λ i. 0) c.types 36) p
     → FindsTypes names 36 (λ i. 0) core_namespace core_type_name p
