@@ -1,8 +1,5 @@
 -- The world of files that pass their checks, put together of its parts.
 use Rattle.std.proofs.Common.{◌≡◌, ℕ, ◌+◌, ◌<◌, true, List, [], ◌∷◌, ◌++◌, length, replicate, Option, Some, refl, sym, ap, ◌∙◌, subst, arith, slice_get}
-use Rattle.std.specs.Prelude.{All}
-use Rattle.std.proofs.lemmas.List.Elements.{All-get_or}
-use Rattle.std.proofs.lemmas.Option.{slice_get_within, get_or_from_slice_get}
 use Rattle.cli_tables.specs.Metadata.{Metadata}
 use Rattle.clr_base.specs.declared.ids.DefId.{DefId}
 use Rattle.type_tree.specs.declared.definition.Def.{Def}
@@ -21,41 +18,19 @@ use Rattle.world_build.specs.CoreTable.{def_id}
 use Rattle.world_build.specs.Counts.{are_few, totals_of}
 use Rattle.world_build.specs.MemberIndexes as index
 use Rattle.world_build.specs.MemberTable.{member_table, of_each}
-use Rattle.world_build.specs.Rows.{ArePassed}
 use Rattle.world_build.specs.Signatures.{file_keys, well_known}
 use Rattle.world_build.specs.World.{file_defs, no_body, of_bytes, reader, tables_in, world, world_file}
 use Rattle.world_build.specs.WorldNames.{names}
 use Rattle.world_build.proofs.FewEnough.{are_below}
-use Rattle.world_build.proofs.WorldCounts.{field_total, method_total}
-use Rattle.world_build.proofs.WorldFits.{AreFew}
+use Rattle.world_build.proofs.FewMembers.{few_members}
 
 -- ---- few enough
-
-all_there : {X : Type 0} (P : X → Type 0) (xs : List X) (k : ℕ) (x : X) → All P xs → slice_get xs k ≡ Some x → P x
-all_there P xs k x all there = subst P (get_or_from_slice_get xs k x x there) (All-get_or xs k x (slice_get_within xs k x there) all)
-
-few_tables : (bytes : List (List ℕ)) → All ArePassed (tables_in bytes) → are_few (totals_of (tables_in bytes)) ≡ true → AreFew bytes
-unfolding totals_of
-few_tables bytes passed few =
-    let t = are_below (totals_of (tables_in bytes)) few in
-    record {
-      passed = λ k m there. all_there ArePassed (tables_in bytes) k m passed there;
-      defs = t.defs;
-      methods = t.methods;
-      fields = t.fields;
-      sigs = t.sigs;
-    }
-
-pub few_files : (bytes : List (List ℕ)) (ms : List Metadata) → ms ≡ tables_in bytes → All ArePassed ms → are_few (totals_of ms) ≡ true → AreFew bytes
-few_files bytes ms are passed few =
-    few_tables bytes (subst (λ (xs : List Metadata). All ArePassed xs) are passed) (subst (λ (xs : List Metadata). are_few (totals_of xs) ≡ true) are few)
 
 pub members_few : (ms : List Metadata) (w : MemberTable) → w ≡ member_table ms → are_few (totals_of ms) ≡ true → index.AreFew w
 unfolding totals_of
 members_few ms w is few =
     let t = are_below (totals_of ms) few in
-    subst (λ (x : MemberTable). index.AreFew x) (sym is)
-    (record { methods = omega (arith, t.methods, method_total ms); fields = omega (arith, t.fields, field_total ms) })
+    subst (λ (x : MemberTable). index.AreFew x) (sym is) (few_members ms (omega (arith, t.methods)) (omega (arith, t.fields)))
 
 -- ---- the parts
 

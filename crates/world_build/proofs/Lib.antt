@@ -47,7 +47,6 @@ pub mod Placed
 pub mod PlacesFit
 pub mod Pushed
 pub mod Ranges
-pub mod ReadersFit
 pub mod RefNames
 pub mod RefNotes
 pub mod RefScopes

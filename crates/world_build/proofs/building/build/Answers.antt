@@ -3,7 +3,7 @@ use Rattle.type_tree.specs.declared.parts.WorldParts.{WorldParts}
 use Rattle.type_tree.specs.Whole.{IsWhole}
 use Rattle.world_build.specs.Images.{bytes_of_each}
 use Rattle.world_build.specs.World.{world}
-use Rattle.world_build.proofs.Builds.{few_files}
+use Rattle.world_build.proofs.FewFiles.{few_files}
 use Rattle.world_build.proofs.WholeWorld.{world_is_whole}
 use Rattle.world_build.proofs.building.build.Goals as goal
 
