@@ -1,14 +1,14 @@
 -- Assemblies that are found by the numbers of their names are those that are found by the names.
-use Rattle.std.proofs.Common.{◌≡◌, ℕ, zero, suc, ◌+◌, ◌-◌, ◌<◌, ◌≤◌, inl, inr, Bool, true, false, ◌||◌, ◌&&◌, cond, eqb, List, [], ◌∷◌, map, length, get_or, Option, None, Some, refl, sym, ap, ap₂, ◌∙◌, subst, arith}
-use Rattle.std.specs.Prelude.{not, nat_le, nat_lt, slice_get}
+use Rattle.std.proofs.Common.{◌≡◌, ℕ, zero, suc, ◌+◌, ◌-◌, ◌<◌, ◌≤◌, inl, inr, Bool, true, false, ◌||◌, ◌&&◌, cond, eqb, List, [], ◌∷◌, map, length, get_or, Option, None, Some, refl, sym, ap, ap₂, ◌∙◌, arith}
+use Rattle.std.specs.Prelude.{not, nat_lt, slice_get}
 use Rattle.std.specs.List.{list_all, list_any, position, position_or_len, range_with_len}
 use Rattle.std.specs.Option.{option_and_then, option_map, option_map_or}
 use Rattle.std.specs.Str.{bytes_eq}
-use Rattle.std.proofs.lemmas.Bool.{and_parts, eqb-true, eq-eqb, leb-true, leb-false, le-leb, lt-ltb, cases_eq, lt-leb, leb-true, le-ltb}
+use Rattle.std.proofs.lemmas.Bool.{and_parts, eqb-true, eq-eqb, le-leb, lt-ltb, cases_eq, lt-leb, le-ltb}
 use Rattle.std.proofs.lemmas.Bool.Decides.{same_from_decides}
 use Rattle.std.proofs.lemmas.List.{get_or-map, length-map}
 use Rattle.std.proofs.lemmas.List.FromFn.{length-map-range_with_len, get_or-map-range_with_len}
-use Rattle.std.proofs.lemmas.Option.{get_or_from_slice_get, slice_get-get_or, slice_get-map, slice_get_cases, slice_get_past, slice_get_within}
+use Rattle.std.proofs.lemmas.Option.{get_or_from_slice_get, slice_get-get_or, slice_get_cases, slice_get_within}
 use Rattle.std.proofs.lemmas.Slice.Eq.{bytes_eq-Decides}
 use Rattle.clr_base.specs.declared.ids.NameId.{NameId}
 use Rattle.cli_tables.specs.Metadata.{Metadata}
@@ -22,7 +22,7 @@ use Rattle.world_build.specs.Numbering.{column_texts, id_in}
 use Rattle.world_build.specs.Resolution.{assembly_text, core_assemblies, core_type, file_named, has_name, in_assembly, top_in}
 use Rattle.world_build.specs.TypeFinders.{AreTexts, def_in}
 use Rattle.world_build.specs.TypeTexts.{AreFileTexts, AreNumbers, core_assembly, in_order}
-use Rattle.world_build.proofs.FindTypes.{among_there, number_there, same_number}
+use Rattle.world_build.proofs.FindTypes.{among_there, same_number}
 use Rattle.world_build.proofs.Settled.{settled_now}
 
 -- ---- the core's

@@ -1,6 +1,6 @@
 -- The bodies of a file's methods lie in its bytes.
-use Rattle.std.proofs.Common.{◌≡◌, ℕ, zero, suc, ◌+◌, ◌-◌, ◌<◌, ◌≤◌, Bool, true, false, List, [], ◌∷◌, ◌++◌, length, Option, None, Some, Result, Ok, Err, if◌then◌else◌, refl, sym, ap, ◌∙◌, subst, arith, slice_get}
-use Rattle.std.specs.Prelude.{◌==◌, nat_le}
+use Rattle.std.proofs.Common.{◌≡◌, ℕ, ◌+◌, ◌≤◌, true, List, length, Option, None, Some, Result, Ok, Err, refl, ap, ◌∙◌, arith}
+use Rattle.std.specs.Prelude.{◌==◌}
 use Rattle.std.specs.Option.{option_map, option_and_then}
 use Rattle.std.specs.List.{find}
 use Rattle.std.proofs.lemmas.Bool.{le-leb}
@@ -8,7 +8,6 @@ use Rattle.clr_base.specs.declared.image_fault.ImageFault.{ImageFault}
 use Rattle.cli_tables.specs.Metadata.{Metadata}
 use Rattle.pe_image.specs.declared.bodies.BodyRange.{BodyRange}
 use Rattle.pe_image.specs.declared.locate.Places.{Places}
-use Rattle.pe_image.specs.declared.sections.Section.{Section}
 use Rattle.pe_image.specs.Bodies.{body_len, range_at, range_by, body_range}
 use Rattle.pe_image.specs.Metadata.{metadata_of}
 use Rattle.pe_image.specs.Sections.{covers, place_by, sections}

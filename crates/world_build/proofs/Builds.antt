@@ -1,5 +1,5 @@
 -- The world of files that pass their checks, put together of its parts.
-use Rattle.std.proofs.Common.{◌≡◌, ℕ, ◌+◌, ◌<◌, true, List, [], ◌∷◌, ◌++◌, length, replicate, Option, Some, refl, sym, ap, ◌∙◌, subst, arith, slice_get}
+use Rattle.std.proofs.Common.{◌≡◌, ℕ, ◌+◌, true, List, [], ◌∷◌, ◌++◌, length, replicate, Option, sym, ap, ◌∙◌, subst, arith}
 use Rattle.cli_tables.specs.Metadata.{Metadata}
 use Rattle.clr_base.specs.declared.ids.DefId.{DefId}
 use Rattle.type_tree.specs.declared.definition.Def.{Def}
@@ -69,17 +69,17 @@ module _ (bytes : List (List ℕ)) (ms : List Metadata) (are : ms ≡ tables_in 
   world_is p ns ds mets bods fs ss rs fls value enumeration canon =
       ap
       (λ (x : List (List ℕ)). record {
-          names = x;
-          defs = p.defs;
-          methods = p.methods;
-          bodies = p.bodies;
-          fields = p.fields;
-          sigs = p.sigs;
-          roots = p.roots;
-          files = p.files;
-          value_type = p.value_type;
-          enumeration = p.enumeration;
-          canon = p.canon;
+        names = x;
+        defs = p.defs;
+        methods = p.methods;
+        bodies = p.bodies;
+        fields = p.fields;
+        sigs = p.sigs;
+        roots = p.roots;
+        files = p.files;
+        value_type = p.value_type;
+        enumeration = p.enumeration;
+        canon = p.canon;
       })
       ns
       ∙ ap (λ (x : List Def). with_rest x p.methods p.bodies p.fields p.sigs p.roots p.files p.value_type p.enumeration p.canon) ds
@@ -94,29 +94,35 @@ module _ (bytes : List (List ℕ)) (ms : List Metadata) (are : ms ≡ tables_in 
       ∙ ap (λ (x : DefId). with_rest the_defs the_methods the_bodies the_fields the_sigs [] the_files (def_id known.ValueType) (def_id known.Enum) x) canon
       ∙ by_tables bytes ms are
     where
-    with_rest : List Def → List Method → List (Option BodyPlace) → List Field → List Key → List Root → List WorldFile → DefId → DefId → DefId → WorldParts
-    with_rest d m b f s r l v e c = record {
-      names = names ms;
-      defs = d;
-      methods = m;
-      bodies = b;
-      fields = f;
-      sigs = s;
-      roots = r;
-      files = l;
-      value_type = v;
-      enumeration = e;
-      canon = c;
-    }
-    the_defs : List Def
-    the_defs = core.defs ++ of_each (file_defs ms) ms
-    the_methods : List Method
-    the_methods = (member_table ms).methods
-    the_bodies : List (Option BodyPlace)
-    the_bodies = replicate (length core.methods) no_body ++ of_bytes (λ b k m. file_bodies b (k + 1) m) 0 bytes
-    the_fields : List Field
-    the_fields = (member_table ms).fields
-    the_sigs : List Key
-    the_sigs = well_known ++ of_each (λ k m. file_keys (reader ms k m)) ms
-    the_files : List WorldFile
-    the_files = of_bytes (λ b k m. world_file ms b k m ∷ []) 0 bytes
+      with_rest : List Def → List Method → List (Option BodyPlace) → List Field → List Key → List Root → List WorldFile → DefId → DefId → DefId → WorldParts
+      with_rest d m b f s r l v e c = record {
+        names = names ms;
+        defs = d;
+        methods = m;
+        bodies = b;
+        fields = f;
+        sigs = s;
+        roots = r;
+        files = l;
+        value_type = v;
+        enumeration = e;
+        canon = c;
+      }
+
+      the_defs : List Def
+      the_defs = core.defs ++ of_each (file_defs ms) ms
+
+      the_methods : List Method
+      the_methods = (member_table ms).methods
+
+      the_bodies : List (Option BodyPlace)
+      the_bodies = replicate (length core.methods) no_body ++ of_bytes (λ b k m. file_bodies b (k + 1) m) 0 bytes
+
+      the_fields : List Field
+      the_fields = (member_table ms).fields
+
+      the_sigs : List Key
+      the_sigs = well_known ++ of_each (λ k m. file_keys (reader ms k m)) ms
+
+      the_files : List WorldFile
+      the_files = of_bytes (λ b k m. world_file ms b k m ∷ []) 0 bytes

@@ -1,16 +1,13 @@
 -- The numbers in the core library are below the counts of a world that has it.
-use Rattle.std.proofs.Common.{◌≡◌, ℕ, zero, suc, ◌+◌, ◌<◌, ◌≤◌, Bool, true, false, List, [], ◌∷◌, ◌++◌, map, length, Option, None, Some, refl, sym, ap, ◌∙◌, subst, arith}
-use Rattle.std.specs.Prelude.{◌&&◌, nat_lt, nat_le}
+use Rattle.std.proofs.Common.{◌≡◌, ℕ, zero, suc, ◌+◌, ◌<◌, ◌≤◌, Bool, true, false, [], ◌∷◌, length, Option, None, Some, refl, sym, ap, subst, arith}
+use Rattle.std.specs.Prelude.{nat_lt, nat_le}
 use Rattle.std.specs.List.{list_all, flat_map, range_with_len}
 use Rattle.std.proofs.lemmas.Bool.{lt-ltb, le-leb, leb-true}
 use Rattle.std.proofs.lemmas.List.FromFn.{length-map-range_with_len}
 use Rattle.clr_base.specs.declared.ids.DefId.{DefId}
 use Rattle.type_tree.specs.declared.counts.Counts.{Counts}
-use Rattle.type_tree.specs.declared.tree.Key.TheVariants.{Tree}
-use Rattle.type_tree.specs.declared.tree.Ty.{Ty}
-use Rattle.type_tree.specs.declared.tree.Ty.TheVariants as ty
 use Rattle.type_tree.specs.Fits.{fits, fits_step, all_fit, parent_fits, formals_fit, is_within, def_fits, method_fits}
-use Rattle.type_tree.specs.Whole.{are_in_order, keys_fit}
+use Rattle.type_tree.specs.Whole.{keys_fit}
 use Rattle.type_tree.proofs.Folds as tree-fold
 use Rattle.world_build.specs.declared.core_table.CoreMethod.{CoreMethod}
 use Rattle.world_build.specs.declared.core_table.FormalKind.{FormalKind}
@@ -21,11 +18,11 @@ use Rattle.world_build.specs.declared.core_table.SigType.TheVariants.{Core, Para
 use Rattle.world_build.specs.declared.core_type.CoreType.{CoreType}
 use Rattle.world_build.specs.declared.core_type.CoreType.TheVariants.{IComparable, IEquatable, String, TypeObject}
 use Rattle.world_build.specs.CoreLibrary.{plain, itself, with_argument, tree_of, trees_of, formals_of, parent_of, interfaces_of, methods_before, def_of, method_of, methods_of, defs, methods, name_id}
-use Rattle.world_build.specs.CoreTable.{core_defs, core_methods, number_of, def_id, def_text, member_text, member_number, row, method_rows}
+use Rattle.world_build.specs.CoreTable.{core_defs, core_methods, def_id, def_text, member_text, row, method_rows}
 use Rattle.world_build.specs.Signatures.{well_known}
 use Rattle.world_build.proofs.CoreNames.{def_named, member_named, member_small}
 use Rattle.world_build.proofs.ListFacts.{all_of_map, all_of_range, all_of_both, both}
-use Rattle.world_build.proofs.Ranges.{all_below, below}
+use Rattle.world_build.proofs.Ranges.{below}
 use Rattle.world_build.proofs.TreesFit.{number_small, inst_fits, array_fits}
 
 -- ---- how many there are

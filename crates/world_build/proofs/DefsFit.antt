@@ -1,15 +1,13 @@
 -- The numbers in the definitions and the signatures of a file are below the counts of a world.
-use Rattle.std.proofs.Common.{◌≡◌, ℕ, ◌+◌, ◌-◌, ◌<◌, ◌≤◌, Bool, true, false, List, [], ◌∷◌, ◌++◌, map, Option, None, Some, refl, sym, ap, ◌∙◌, subst, arith}
-use Rattle.std.specs.Prelude.{◌&&◌, ◌==◌, nat_lt, nat_le}
-use Rattle.std.specs.List.{list_all, flat_map}
+use Rattle.std.proofs.Common.{◌≡◌, ℕ, ◌-◌, true, List, [], ◌∷◌, ◌++◌, map, Option, None, Some, refl}
+use Rattle.std.specs.Prelude.{nat_le}
+use Rattle.std.specs.List.{flat_map}
 use Rattle.std.proofs.lemmas.Bool.{and_parts, lt-ltb}
-use Rattle.cli_sigs.specs.declared.signature.SigTy.{SigTy}
 use Rattle.cli_tables.specs.declared.schema.CodedIndex.TheVariants.{TypeDefOrRef}
 use Rattle.cli_tables.specs.Metadata.{Metadata}
 use Rattle.type_tree.specs.declared.counts.Counts.{Counts}
 use Rattle.type_tree.specs.declared.definition.Impl.{Impl}
-use Rattle.type_tree.specs.declared.tree.Key.{Key}
-use Rattle.type_tree.specs.declared.tree.Key.TheVariants.{Tree, Meth}
+use Rattle.type_tree.specs.declared.tree.Key.TheVariants.{Tree}
 use Rattle.type_tree.specs.declared.tree.Ty.{Ty}
 use Rattle.type_tree.specs.declared.tree.Ty.TheVariants as ty
 use Rattle.type_tree.specs.Fits.{fits, all_fit, key_fits, parent_fits, impls_fit, is_within, def_fits}
@@ -18,7 +16,7 @@ use Rattle.world_build.specs.declared.cells.RowOf.{RowOf}
 use Rattle.world_build.specs.declared.file_names.FileNames.{FileNames}
 use Rattle.world_build.specs.declared.member_table.Run.{Run}
 use Rattle.world_build.specs.declared.type_rows.TypeRows.{TypeRows}
-use Rattle.world_build.specs.Cells.{rows, rows_of, at, coded, owner_of, rows_with}
+use Rattle.world_build.specs.Cells.{rows_of, at, coded, owner_of, rows_with}
 use Rattle.world_build.specs.Definitions.{parent_at, parent_of, interfaces_of, def_of}
 use Rattle.world_build.specs.Members.{type_owner}
 use Rattle.world_build.specs.References.{Reader, owner_type, ref_owner, spec_key}

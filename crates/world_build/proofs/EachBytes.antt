@@ -1,5 +1,5 @@
 -- Lists that files give with their bytes, one after the other: what one file more adds.
-use Rattle.std.proofs.Common.{◌≡◌, ℕ, zero, suc, ◌+◌, ◌≤◌, List, [], ◌∷◌, ◌++◌, take, length, Some, refl, sym, ap, ap₂, ◌∙◌, arith, slice_get}
+use Rattle.std.proofs.Common.{◌≡◌, ℕ, zero, suc, ◌+◌, ◌≤◌, List, [], ◌∷◌, ◌++◌, take, length, Some, sym, ap, ap₂, ◌∙◌, arith, slice_get}
 use Rattle.std.proofs.lemmas.List.{append-nil, append_assoc, take_all}
 use Rattle.cli_tables.specs.Metadata.{Metadata}
 use Rattle.world_build.specs.Image.{metadata_in}
@@ -27,8 +27,8 @@ module _ {X : Type 0} (give : List ℕ → ℕ → Metadata → List X) where
       let next : k + 1 ≡ suc k = omega arith in
       let place : 0 + k ≡ k = omega arith in
       let more =
-          ap (λ (n : ℕ). of_bytes give 0 (take n files)) next ∙ bytes_from_more 0 files k b there
-          ∙ ap (λ (i : ℕ). of_bytes give 0 (take k files) ++ give b i (metadata_in b)) place
+      ap (λ (n : ℕ). of_bytes give 0 (take n files)) next ∙ bytes_from_more 0 files k b there
+      ∙ ap (λ (i : ℕ). of_bytes give 0 (take k files) ++ give b i (metadata_in b)) place
       in
       added ∙ ap₂ (λ (xs ys : List X). xs ++ ys) done is ∙ append_assoc before (of_bytes give 0 (take k files)) (give b k (metadata_in b))
       ∙ ap (λ (xs : List X). before ++ xs) (sym more)

@@ -1,7 +1,7 @@
 -- Whether tokens can number what files give: a count that stops where it is too many tells it as well as the count itself.
-use Rattle.std.proofs.Common.{◌≡◌, ℕ, ◌+◌, ◌<◌, ◌≤◌, ◌⊎◌, inl, inr, Bool, true, false, cond, [], ◌∷◌, Ok, Err, refl, sym, ap, ◌∙◌, arith}
+use Rattle.std.proofs.Common.{◌≡◌, ℕ, ◌+◌, ◌≤◌, inl, inr, true, [], ◌∷◌, Ok, Err, sym, ap, ◌∙◌, arith}
 use Rattle.std.specs.Prelude.{nat_le, ◌&&◌}
-use Rattle.std.proofs.lemmas.Bool.{and_parts, le-leb, leb-true, lt-leb}
+use Rattle.std.proofs.lemmas.Bool.{and_parts, leb-true, lt-leb}
 use Rattle.clr_base.specs.declared.image_fault.ImageFault.{ImageFault}
 use Rattle.clr_base.specs.declared.image_fault.FaultKind.TheVariants.{TooMany}
 use Rattle.clr_base.specs.Checks.{check, outcome, first_fault}
@@ -10,10 +10,10 @@ use Rattle.cli_tables.specs.Metadata.{Metadata}
 use Rattle.type_tree.specs.Whole.{most}
 use Rattle.world_build.specs.declared.counts.Totals.{Totals}
 use Rattle.world_build.specs.Cells.{rows}
-use Rattle.world_build.specs.Counts.{are_few, count_checks, with_file, too_many, capped, all_locals}
+use Rattle.world_build.specs.Counts.{are_few, count_checks, with_file, capped, all_locals}
 use Rattle.world_build.specs.Rows.{token}
 use Rattle.world_build.specs.Signatures.{row_sigs, locals_before, sigs_in}
-use Rattle.world_build.proofs.Counted.{capped_few, stops, below, one_of}
+use Rattle.world_build.proofs.Counted.{stops, below, one_of}
 
 -- what are few enough, by themselves
 pub record AreBelow (t : Totals) : Type 0 where

@@ -1,5 +1,5 @@
 -- Files that are read are few enough for the world that they give.
-use Rattle.std.proofs.Common.{◌≡◌, ℕ, All, List, true, Some, sym, ap, ◌∙◌, subst, slice_get, get_or}
+use Rattle.std.proofs.Common.{◌≡◌, ℕ, All, List, true, Some, sym, ap, ◌∙◌, subst, slice_get}
 use Rattle.std.proofs.lemmas.Option.{slice_get_within, get_or_from_slice_get}
 use Rattle.cli_tables.specs.Metadata.{Metadata}
 use Rattle.world_build.specs.Counts.{totals_of, are_few}

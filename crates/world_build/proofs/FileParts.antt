@@ -1,19 +1,16 @@
 -- What a file adds to a world is what the definition says, and its numbers are small.
-use Rattle.std.proofs.Common.{◌≡◌, ℕ, zero, suc, ◌+◌, ◌*◌, ◌<◌, ◌≤◌, ◌^◌, true, List, [], ◌∷◌, ◌++◌, map, take, length, Some, refl, sym, ap, ap₂, ◌∙◌, subst, arith, slice_get}
-use Rattle.std.specs.List.{enumerate_from, sum_by}
+use Rattle.std.proofs.Common.{◌≡◌, ℕ, zero, suc, ◌+◌, ◌<◌, ◌≤◌, true, List, [], ◌∷◌, ◌++◌, map, take, length, Some, sym, ap, ap₂, ◌∙◌, subst, arith, slice_get}
 use Rattle.std.proofs.lemmas.List.{length-append}
 use Rattle.cli_tables.specs.Metadata.{Metadata}
 use Rattle.type_tree.specs.declared.definition.Def.{Def}
-use Rattle.type_tree.specs.declared.parts.WorldFile.{WorldFile}
 use Rattle.type_tree.specs.declared.tree.Key.{Key}
-use Rattle.type_tree.specs.Whole.{most}
 use Rattle.world_build.specs.declared.file_names.FileNames.{FileNames}
 use Rattle.world_build.specs.declared.member_index.MemberIndex.{MemberIndex}
 use Rattle.world_build.specs.declared.member_table.MemberTable.{MemberTable}
 use Rattle.world_build.specs.declared.type_rows.TypeRows.{TypeRows}
 use Rattle.world_build.specs.Cells.{rows, rows_of}
 use Rattle.world_build.specs.Counts.{are_few, totals_of}
-use Rattle.world_build.specs.CoreTable.{core_defs, core_methods}
+use Rattle.world_build.specs.CoreTable.{core_methods}
 use Rattle.world_build.specs.Definitions.{def_of}
 use Rattle.world_build.specs.Image.{metadata_in}
 use Rattle.world_build.specs.MemberIndexes.{IsIndexOf}
@@ -26,8 +23,8 @@ use Rattle.world_build.specs.Trees.{AreNumbered}
 use Rattle.world_build.specs.World.{reader, file_defs, file_of, world_file, tables_in}
 use Rattle.world_build.specs.WorldNames.{names, file_names, type_rows}
 use Rattle.world_build.proofs.FewEnough.{AreBelow, are_below}
-use Rattle.world_build.proofs.FileSums.{all_rows, length_of_each, of_part, rows_within}
-use Rattle.world_build.proofs.NamesCount.{named_rows, names_few}
+use Rattle.world_build.proofs.FileSums.{length_of_each, of_part, rows_within}
+use Rattle.world_build.proofs.NamesCount.{names_few}
 use Rattle.world_build.proofs.WorldCounts.{file_keys_count, reader_tables}
 use Rattle.world_build.proofs.WorldFits.{named_few, table_at}
 

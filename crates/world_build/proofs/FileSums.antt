@@ -1,6 +1,5 @@
 -- Lists that files give one after the other: how long they are, what their items pass, and where the part of a file stands.
-use Rattle.std.proofs.Common.{◌≡◌, ℕ, zero, suc, ◌+◌, ◌-◌, ◌<◌, ◌≤◌, Bool, true, List, [], ◌∷◌, ◌++◌, map, take, length, Option, None, Some, refl, sym, ap, ap₂, ◌∙◌, subst, arith, slice_get}
-use Rattle.std.specs.Prelude.{◌&&◌}
+use Rattle.std.proofs.Common.{◌≡◌, ℕ, zero, suc, ◌+◌, ◌≤◌, Bool, true, List, [], ◌∷◌, take, length, Some, refl, sym, ap, ap₂, ◌∙◌, subst, arith, slice_get}
 use Rattle.std.specs.List.{list_all, flat_map, enumerate_from, sum_by}
 use Rattle.std.proofs.lemmas.List.{length-append}
 use Rattle.std.proofs.lemmas.List.Sums.{sum_by-cons}

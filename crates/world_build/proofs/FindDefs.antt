@@ -1,12 +1,12 @@
 -- The definitions of the core and of files that are found.
-use Rattle.std.proofs.Common.{◌≡◌, ℕ, zero, suc, ◌+◌, ◌<◌, ◌≤◌, inl, inr, Bool, true, false, cond, List, length, Option, None, Some, refl, sym, ap, ap₂, ◌∙◌, subst, arith}
+use Rattle.std.proofs.Common.{◌≡◌, ℕ, zero, suc, ◌+◌, ◌<◌, inl, inr, Bool, true, false, cond, List, Option, None, Some, refl, sym, ap, ◌∙◌, arith}
 use Rattle.std.specs.Prelude.{slice_get}
 use Rattle.std.specs.List.{find, range_with_len}
 use Rattle.std.specs.Option.{option_and_then, option_map}
 use Rattle.std.proofs.lemmas.Option.{slice_get_cases, slice_get_past, slice_get_within}
 use Rattle.cli_tables.specs.Metadata.{Metadata}
 use Rattle.world_build.specs.declared.resolution.DefPlace.{DefPlace}
-use Rattle.world_build.specs.declared.resolution.DefPlace.TheVariants.{InCore, InFile}
+use Rattle.world_build.specs.declared.resolution.DefPlace.TheVariants.{InFile}
 use Rattle.world_build.specs.declared.type_keys.FirstPlaces.{FirstPlaces}
 use Rattle.world_build.specs.declared.type_keys.TypeKey.{TypeKey}
 use Rattle.world_build.specs.Cells.{rows}

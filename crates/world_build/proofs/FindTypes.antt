@@ -1,14 +1,13 @@
 -- What is found by numbers is what is found by texts.
-use Rattle.std.proofs.Common.{◌≡◌, ℕ, zero, suc, ◌+◌, ◌<◌, ◌≤◌, Bool, true, false, ◌||◌, ◌&&◌, cond, eqb, List, [], ◌∷◌, map, length, get_or, Option, None, Some, refl, sym, ap, ap₂, ◌∙◌, subst, arith, eqb-true}
-use Rattle.std.specs.Prelude.{not, slice_get}
+use Rattle.std.proofs.Common.{◌≡◌, ℕ, zero, suc, ◌+◌, ◌<◌, ◌≤◌, Bool, true, false, ◌||◌, ◌&&◌, cond, eqb, List, [], ◌∷◌, map, length, get_or, Option, Some, refl, sym, ap, ap₂, ◌∙◌, arith, eqb-true}
+use Rattle.std.specs.Prelude.{not}
 use Rattle.std.specs.List.{find, list_all, list_any, range_with_len}
-use Rattle.std.specs.Option.{option_and_then, option_map}
 use Rattle.std.specs.Str.{bytes_eq}
 use Rattle.std.proofs.Math.Bool.{and_assoc}
 use Rattle.std.proofs.lemmas.Bool.{and_parts, eq-eqb}
 use Rattle.std.proofs.lemmas.Bool.Decides.{same_from_decides}
 use Rattle.std.proofs.lemmas.List.{get_or-map}
-use Rattle.std.proofs.lemmas.List.FromFn.{get_or-map-range_with_len, length-map-range_with_len}
+use Rattle.std.proofs.lemmas.List.FromFn.{get_or-map-range_with_len}
 use Rattle.std.proofs.lemmas.Slice.Eq.{bytes_eq-Decides}
 use Rattle.clr_base.specs.declared.ids.NameId.{NameId}
 use Rattle.world_build.specs.declared.type_keys.FirstPlaces.{FirstPlaces}
@@ -17,7 +16,7 @@ use Rattle.world_build.specs.declared.type_texts.NameColumns.{NameColumns}
 use Rattle.world_build.specs.Names.{number_in}
 use Rattle.world_build.specs.Numbering.{id_in}
 use Rattle.world_build.specs.TypeFinders.{FindsTypes, is_called, key_in}
-use Rattle.world_build.specs.TypeKeys.{Finds, first_at, first_of, key_at, key_of, keys_of, number_at, same_key}
+use Rattle.world_build.specs.TypeKeys.{Finds, first_of, key_at, key_of, keys_of, number_at, same_key}
 use Rattle.world_build.specs.TypeTexts.{AreNamed, AreNumbers}
 use Rattle.world_build.proofs.KeyLists.{keys_count}
 use Rattle.world_build.proofs.ListFacts.{found_within}

@@ -1,5 +1,5 @@
 -- The first place of a name, from one place to the next.
-use Rattle.std.proofs.Common.{◌≡◌, ℕ, zero, suc, ◌+◌, ◌<◌, ◌≤◌, Bool, true, false, cond, List, [], ◌∷◌, ◌++◌, get_or, Option, Some, None, length, Bor, eqb, refl, sym, ap, ◌∙◌, subst, arith}
+use Rattle.std.proofs.Common.{◌≡◌, ℕ, ◌+◌, ◌<◌, Bool, true, false, cond, List, [], ◌∷◌, ◌++◌, get_or, Option, Some, None, length, Bor, eqb, refl, sym, ap, ◌∙◌}
 use Rattle.std.specs.Prelude.{is_some, not, ◌&&◌}
 use Rattle.std.specs.List.{find, range_with_len}
 use Rattle.std.specs.Option.{option_copied}

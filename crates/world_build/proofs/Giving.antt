@@ -1,8 +1,7 @@
 -- What a refusal says of the checks.
-use Rattle.std.proofs.Common.{◌≡◌, List, Result, Ok, Err, sym, ap, ◌∙◌, subst}
+use Rattle.std.proofs.Common.{◌≡◌, Result, Err, sym, ap, ◌∙◌, subst}
 use Rattle.clr_base.specs.declared.image_fault.ImageFault.{ImageFault}
-use Rattle.clr_base.specs.Checks.{Check, first_fault}
-use Rattle.world_build.specs.Refusals.{GivesOutcome, Gives}
+use Rattle.world_build.specs.Refusals.{GivesOutcome}
 use Rattle.world_build.specs.declared.refusal.Refusal.{Refusal}
 use Rattle.world_build.specs.declared.refusal.Refusal.TheVariants.{Fault, Memory}
 

@@ -1,7 +1,7 @@
 -- What is found in a list, and what all its items pass.
-use Rattle.std.proofs.Common.{◌≡◌, ℕ, zero, suc, ◌+◌, ◌<◌, ◌≤◌, ◌⊎◌, inl, inr, Bool, true, false, cond, List, [], ◌∷◌, ◌++◌, map, length, Option, None, Some, unwrap_or, if◌then◌else◌, refl, sym, ap, ◌∙◌, subst, arith, slice_get, get_or}
+use Rattle.std.proofs.Common.{◌≡◌, ℕ, zero, suc, ◌+◌, ◌<◌, ◌≤◌, Bool, true, false, cond, List, [], ◌∷◌, ◌++◌, map, length, Option, Some, if◌then◌else◌, refl, ap, ◌∙◌, subst, arith, slice_get, get_or}
 use Rattle.std.specs.Prelude.{◌&&◌}
-use Rattle.std.specs.List.{find, range_with_len, list_all, flat_map, enumerate_from}
+use Rattle.std.specs.List.{find, range_with_len, list_all}
 use Rattle.std.proofs.lemmas.Bool.{and_parts}
 use Rattle.std.proofs.lemmas.List.Folds.{list_all-append}
 

@@ -1,14 +1,14 @@
 -- How many local variables stand before those of a row.
-use Rattle.std.proofs.Common.{◌≡◌, ℕ, ◌+◌, ◌<◌, ◌≤◌, List, take, length, Option, None, Some, get_or, refl, sym, ap, ◌∙◌, arith}
+use Rattle.std.proofs.Common.{◌≡◌, ℕ, ◌+◌, ◌<◌, ◌≤◌, List, take, length, Option, None, Some, get_or, refl, ap, ◌∙◌, arith}
 use Rattle.std.specs.Option.{option_map, option_map_or}
-use Rattle.std.specs.List.{range_with_len, sum_by}
+use Rattle.std.specs.List.{sum_by}
 use Rattle.std.proofs.lemmas.List.FromFn.{length-range_with_len, get_or-range_with_len}
 use Rattle.std.proofs.lemmas.List.Sums.{sum_by_more, sum_by-take-le}
 use Rattle.cli_sigs.specs.declared.signature.SigTy.{SigTy}
 use Rattle.cli_tables.specs.Metadata.{Metadata}
 use Rattle.type_tree.specs.declared.parts.Locals.{Locals}
 use Rattle.world_build.specs.Cells.{rows, rows_of}
-use Rattle.world_build.specs.Signatures.{locals_in, listed, locals_before, row_sigs, sigs_in}
+use Rattle.world_build.specs.Signatures.{locals_in, listed, locals_before}
 use Rattle.world_build.proofs.WorldCounts.{all_taken}
 
 -- one row more
@@ -22,8 +22,8 @@ locals_more m row less =
     sum_by_more (λ r. length (listed (locals_in m r))) (rows_of m 0x11) row 0 (omega (arith, count))
     ∙ ap (λ (r : ℕ). locals_sum m row + length (listed (locals_in m r))) (at ∙ last)
   where
-  locals_sum : Metadata → ℕ → ℕ
-  locals_sum m n = sum_by (λ r. length (listed (locals_in m r))) (take n (rows_of m 0x11))
+    locals_sum : Metadata → ℕ → ℕ
+    locals_sum m n = sum_by (λ r. length (listed (locals_in m r))) (take n (rows_of m 0x11))
 
 -- those of the first rows are among all
 pub locals_most : (m : Metadata) (n : ℕ) → locals_before m n ≤ locals_before m (rows m 0x11)

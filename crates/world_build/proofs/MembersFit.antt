@@ -1,36 +1,25 @@
 -- The numbers in methods, fields and the rows that name them are below the counts of a world.
-use Rattle.std.proofs.Common.{◌≡◌, ◌≢◌, ℕ, zero, suc, ◌+◌, ◌-◌, ◌<◌, ◌≤◌, Bool, true, false, cond, List, [], ◌∷◌, map, length, Option, None, Some, unwrap_or, if◌then◌else◌, refl, sym, ap, ◌∙◌, subst, arith, slice_get, get_or}
-use Rattle.std.specs.Prelude.{◌&&◌, ◌==◌, nat_lt, nat_le}
+use Rattle.std.proofs.Common.{◌≡◌, ℕ, ◌+◌, ◌-◌, ◌<◌, Bool, true, false, List, length, Option, None, Some, refl, subst, arith, slice_get}
+use Rattle.std.specs.Prelude.{◌&&◌, nat_lt, nat_le}
 use Rattle.std.specs.List.{find, range_with_len, list_all}
 use Rattle.std.specs.Option.{option_map, option_map_or, option_and_then}
-use Rattle.std.proofs.lemmas.Bool.{and_parts, lt-ltb, le-leb, ltb-true, leb-true, eqb-false}
-use Rattle.clr_base.specs.declared.ids.DefId.{DefId}
+use Rattle.std.proofs.lemmas.Bool.{and_parts, lt-ltb, leb-true}
 use Rattle.clr_base.specs.declared.ids.FieldId.{FieldId}
 use Rattle.clr_base.specs.declared.ids.MethId.{MethId}
 use Rattle.clr_base.specs.declared.ids.NameId.{NameId}
 use Rattle.cli_tables.specs.Metadata.{Metadata}
 use Rattle.type_tree.specs.declared.counts.Counts.{Counts}
-use Rattle.type_tree.specs.declared.definition.Field.{Field}
-use Rattle.type_tree.specs.declared.definition.Formal.{Formal}
-use Rattle.type_tree.specs.declared.definition.Method.{Method}
-use Rattle.type_tree.specs.declared.parts.Member.{Member}
-use Rattle.type_tree.specs.declared.parts.Member.TheVariants as member
-use Rattle.type_tree.specs.declared.tree.Key.{Key}
-use Rattle.type_tree.specs.declared.tree.Key.TheVariants.{Tree, Meth}
 use Rattle.type_tree.specs.declared.tree.Ty.{Ty}
-use Rattle.type_tree.specs.Fits.{fits, all_fit, key_fits, formal_fits, formals_fit, method_fits, field_fits, method_is_below, impl_fits, impls_fit}
-use Rattle.type_tree.specs.Kinds.{head}
-use Rattle.type_tree.specs.Whole.{member_fits}
-use Rattle.world_build.specs.declared.cells.RowOf.{RowOf}
+use Rattle.type_tree.specs.Fits.{formal_fits, formals_fit, method_fits, field_fits}
 use Rattle.world_build.specs.declared.file_names.FileNames.{FileNames}
 use Rattle.world_build.specs.declared.member_table.MemberTable.{MemberTable}
 use Rattle.world_build.specs.declared.member_table.Run.{Run}
 use Rattle.world_build.specs.declared.type_rows.TypeRows.{TypeRows}
-use Rattle.world_build.specs.Cells.{rows, rows_of, at, is_owner, owner_of, rows_with}
+use Rattle.world_build.specs.Cells.{rows_of, at, owner_of, rows_with}
 use Rattle.world_build.specs.MemberTable.{Open, is_method, own_method, is_field, own_field}
 use Rattle.world_build.specs.Members.{formal_of, formals_of, method_sig, field_sig, method_owner, owner_id, method_of, field_of, file_methods, file_fields}
-use Rattle.world_build.specs.Trees.{tree, trees, empty_name, coded_type}
-use Rattle.world_build.proofs.ListFacts.{choose, found_passes, found_within, all_of_map, all_of_range, all_at_or, there_is, both}
+use Rattle.world_build.specs.Trees.{empty_name, coded_type}
+use Rattle.world_build.proofs.ListFacts.{choose, found_passes, all_of_map, all_at_or, there_is, both}
 use Rattle.world_build.proofs.TreesFit.{RowsFit, tree_fits, trees_fit, type_at_row_fits, types_fit}
 
 abbrev pub name_fits : Counts → NameId → Bool

@@ -1,6 +1,5 @@
 -- How many names a world has.
-use Rattle.std.proofs.Common.{◌≡◌, ℕ, zero, suc, ◌+◌, ◌*◌, ◌<◌, ◌≤◌, Bool, true, false, List, [], ◌∷◌, ◌++◌, map, filter, length, is_none, if◌then◌else◌, refl, sym, ap, ◌∙◌, subst, arith}
-use Rattle.std.specs.Prelude.{◌||◌}
+use Rattle.std.proofs.Common.{◌≡◌, ℕ, ◌+◌, ◌<◌, ◌≤◌, Bool, List, [], ◌∷◌, ◌++◌, map, filter, length, is_none, refl, sym, ap, ◌∙◌, arith}
 use Rattle.std.specs.List.{list_any, flat_map, enumerate_from, sum_by, range_with_len}
 use Rattle.std.specs.Str.{bytes_eq}
 use Rattle.std.proofs.lemmas.List.{length-append, length-map}
@@ -18,7 +17,6 @@ use Rattle.world_build.specs.Names.{with_one, with_all, first_seen}
 use Rattle.world_build.specs.WorldNames.{missing_refs, file_texts, names}
 use Rattle.world_build.proofs.CoreNames.{names_listed}
 use Rattle.world_build.proofs.ListFacts.{choose}
-use Rattle.world_build.proofs.NamesThere.{all_texts}
 
 -- ---- a list of texts, each once
 

@@ -1,22 +1,19 @@
 -- Each text that names are made of has its number among them.
-use Rattle.std.proofs.Common.{◌≡◌, ℕ, zero, suc, ◌+◌, ◌<◌, ◌≤◌, ◌⊎◌, inl, inr, Bool, true, false, cond, List, [], ◌∷◌, ◌++◌, map, filter, length, Option, None, Some, is_none, if◌then◌else◌, refl, sym, ap, ◌∙◌, subst, arith, slice_get}
-use Rattle.std.specs.Prelude.{◌&&◌, ◌||◌, not, nat_lt}
+use Rattle.std.proofs.Common.{◌≡◌, ℕ, zero, suc, ◌+◌, ◌<◌, ◌≤◌, Bool, true, false, cond, List, [], ◌∷◌, ◌++◌, map, filter, length, Option, None, Some, is_none, if◌then◌else◌, refl, sym, ◌∙◌, subst, arith, slice_get}
+use Rattle.std.specs.Prelude.{◌||◌, not}
 use Rattle.std.specs.List.{list_all, list_any, position_or_len, flat_map, enumerate_from}
 use Rattle.std.specs.Str.{bytes_eq}
-use Rattle.std.proofs.lemmas.Bool.{and_parts, lt-ltb, ltb-true}
-use Rattle.std.proofs.lemmas.List.{length-append}
+use Rattle.std.proofs.lemmas.Bool.{and_parts, lt-ltb}
 use Rattle.std.proofs.lemmas.List.Folds.{list_all-append, list_any-append}
 use Rattle.std.proofs.lemmas.Slice.Eq.{bytes_eq-Decides}
 use Rattle.cli_tables.specs.Metadata.{Metadata}
 use Rattle.type_tree.specs.declared.counts.Counts.{Counts}
-use Rattle.world_build.specs.declared.file_names.FileNames.{FileNames}
 use Rattle.world_build.specs.declared.resolution.DefPlace.{DefPlace}
-use Rattle.world_build.specs.declared.type_rows.Target.{Target}
 use Rattle.world_build.specs.CoreLibrary.{texts_in_order}
 use Rattle.world_build.specs.CoreTable.{core_defs}
-use Rattle.world_build.specs.Cells.{rows, rows_of, text}
+use Rattle.world_build.specs.Cells.{rows_of, text}
 use Rattle.world_build.specs.Names.{with_one, with_all, first_seen, number_in}
-use Rattle.world_build.specs.Resolution.{def_at, resolved, first_def}
+use Rattle.world_build.specs.Resolution.{def_at, resolved}
 use Rattle.world_build.specs.TypeNames.{full_name, name_of_ref}
 use Rattle.world_build.specs.WorldNames.{missing_refs, file_texts, names, name_id, target_at, target_of, type_rows, file_names}
 use Rattle.world_build.proofs.FileSums.{all_rows, rows_within}

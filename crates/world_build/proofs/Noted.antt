@@ -1,11 +1,11 @@
 -- What is noted of the rows of NestedClass and GenericParam, from one row to the next.
-use Rattle.std.proofs.Common.{◌≡◌, ◌≢◌, ℕ, zero, suc, ◌+◌, ◌-◌, ◌*◌, ◌/◌, ◌%◌, ◌^◌, ◌<◌, ◌≤◌, max, inl, inr, Bool, true, false, ◌||◌, ◌&&◌, not, List, [], ◌∷◌, length, get_or, set, slice_set, replicate, None, Some, Ok, nat_le, nat_lt, nat_eq, refl, sym, ap, ◌∙◌, subst, arith}
+use Rattle.std.proofs.Common.{◌≡◌, ℕ, zero, suc, ◌+◌, ◌-◌, ◌*◌, ◌/◌, ◌%◌, ◌<◌, ◌≤◌, max, inl, inr, Bool, true, false, ◌||◌, ◌&&◌, not, List, [], ◌∷◌, length, get_or, set, slice_set, replicate, None, Ok, nat_le, nat_lt, nat_eq, refl, sym, ap, ◌∙◌, subst, arith}
 use Rattle.std.proofs.lemmas.Bool.{and_parts, cases_eq, eq-eqb, ne_eqb, leb-true}
 use Rattle.std.proofs.lemmas.List.{get_or-set_same, get_or-set_other, length-set, length-replicate, get_or-replicate}
 use Rattle.clr_base.specs.Checks.{check, first_fault}
 use Rattle.clr_base.specs.declared.image_fault.FaultKind.TheVariants.{BadIndex}
 use Rattle.cli_tables.specs.declared.schema.CodedIndex.TheVariants.{TypeOrMethodDef}
-use Rattle.cli_tables.specs.Layout.{cell, row_count, one_if}
+use Rattle.cli_tables.specs.Layout.{row_count, one_if}
 use Rattle.cli_tables.specs.Metadata.{Metadata}
 use Rattle.cli_tables.specs.Schema.{columns, tables_of, tag_bits}
 use Rattle.world_build.specs.Rows.{token, is_row, is_row_of, is_coded, may_be_null, cell_checks, column_checks, rule_checks, nested, enclosing, nested_in_first, nested_rule, number, owner, owned_in_first, number_rule}

@@ -1,7 +1,7 @@
 -- What a reference names is a type of the core or a row that there is.
-use Rattle.std.proofs.Common.{◌≡◌, ℕ, zero, suc, ◌+◌, ◌<◌, ◌≤◌, Bool, true, false, cond, List, get_or, map, Option, Some, None, refl, sym, ap, ◌∙◌, subst, arith}
-use Rattle.std.specs.Prelude.{◌==◌, nat_le, ◌&&◌, slice_get, length}
-use Rattle.std.specs.List.{find, range_with_len, list_any, enumerate_from}
+use Rattle.std.proofs.Common.{◌≡◌, ℕ, zero, suc, ◌+◌, ◌<◌, ◌≤◌, Bool, true, false, cond, List, Option, Some, None, refl, ap, arith}
+use Rattle.std.specs.Prelude.{◌==◌, nat_le, slice_get}
+use Rattle.std.specs.List.{find, range_with_len, list_any}
 use Rattle.std.specs.Option.{IfSome, option_map, option_and_then}
 use Rattle.std.specs.Str.{bytes_eq}
 use Rattle.std.proofs.lemmas.Option.{slice_get_within, get_or_from_slice_get}
@@ -9,7 +9,7 @@ use Rattle.cli_tables.specs.Metadata.{Metadata}
 use Rattle.world_build.specs.declared.cells.RowOf.{RowOf}
 use Rattle.world_build.specs.declared.resolution.DefPlace.{DefPlace}
 use Rattle.world_build.specs.declared.resolution.DefPlace.TheVariants.{InCore, InFile}
-use Rattle.world_build.specs.Cells.{rows, rows_of}
+use Rattle.world_build.specs.Cells.{rows}
 use Rattle.world_build.specs.Numbering.{IsPlaced}
 use Rattle.world_build.specs.Resolution.{assembly_text, core_assemblies, core_type, def_row, file_named, in_assembly, in_scope, is_def, nested_in, resolved, resolved_within, top_in}
 use Rattle.world_build.specs.TypeNames.{ref_name, ref_namespace, scope, most_scopes}

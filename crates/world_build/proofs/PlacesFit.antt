@@ -1,8 +1,8 @@
 -- A reference names a definition that is there.
-use Rattle.std.proofs.Common.{◌≡◌, ℕ, zero, suc, ◌+◌, ◌-◌, ◌<◌, ◌≤◌, Bool, true, false, List, Option, None, Some, if◌then◌else◌, refl, arith, slice_get, subst}
+use Rattle.std.proofs.Common.{◌≡◌, ℕ, zero, suc, ◌+◌, ◌<◌, ◌≤◌, List, Option, None, Some, refl, arith, slice_get, subst}
 use Rattle.std.specs.Prelude.{◌==◌, nat_le}
 use Rattle.std.specs.Option.{option_map, option_and_then}
-use Rattle.std.specs.List.{find, list_any, range_with_len}
+use Rattle.std.specs.List.{list_any}
 use Rattle.std.specs.Str.{bytes_eq}
 use Rattle.cli_tables.specs.Metadata.{Metadata}
 use Rattle.world_build.specs.declared.cells.RowOf.{RowOf}
@@ -10,7 +10,7 @@ use Rattle.world_build.specs.declared.resolution.DefPlace.{DefPlace}
 use Rattle.world_build.specs.declared.resolution.DefPlace.TheVariants.{InCore, InFile}
 use Rattle.world_build.specs.CoreTable.{core_defs}
 use Rattle.world_build.specs.Cells.{rows}
-use Rattle.world_build.specs.Resolution.{core_assemblies, is_core_type, core_type, first_def, file_named, is_def, def_row, def_at, top_in, nested_in, in_assembly, assembly_text, in_scope, resolved_within, resolved}
+use Rattle.world_build.specs.Resolution.{core_assemblies, is_core_type, core_type, file_named, is_def, def_row, def_at, top_in, nested_in, in_assembly, assembly_text, in_scope, resolved_within, resolved}
 use Rattle.world_build.specs.TypeNames.{ref_name, ref_namespace, scope, most_scopes}
 use Rattle.world_build.proofs.FileSums.{all_rows, rows_within}
 use Rattle.world_build.proofs.ListFacts.{choose, found_within}

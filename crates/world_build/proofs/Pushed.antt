@@ -24,8 +24,8 @@ appended f row old before after more done added is =
     let last : 1 + row ≡ row + 1 = omega arith in
     let one : row + 1 ≡ suc row = omega arith in
     let step : flat_map f (range_with_len 1 (row + 1)) ≡ flat_map f (range_with_len 1 row) ++ f (row + 1) =
-        ap (λ (n : ℕ). flat_map f (range_with_len 1 n)) one ∙ ap (flat_map f) (range_more 1 row) ∙ flat_map-append f (range_with_len 1 row) ((1 + row) ∷ [])
-        ∙ ap (λ xs. flat_map f (range_with_len 1 row) ++ xs) (append-nil (f (1 + row)) ∙ ap f last)
+    ap (λ (n : ℕ). flat_map f (range_with_len 1 n)) one ∙ ap (flat_map f) (range_more 1 row) ∙ flat_map-append f (range_with_len 1 row) ((1 + row) ∷ [])
+    ∙ ap (λ xs. flat_map f (range_with_len 1 row) ++ xs) (append-nil (f (1 + row)) ∙ ap f last)
     in
     added ∙ ap₂ (λ xs ys. xs ++ ys) done is ∙ append_assoc old (flat_map f (range_with_len 1 row)) (f (row + 1)) ∙ ap (λ xs. old ++ xs) (sym step)
 

@@ -1,9 +1,8 @@
 -- What MemberRef, MethodSpec and MethodImpl rows name is below the counts of a world.
-use Rattle.std.proofs.Common.{◌≡◌, ◌≢◌, ℕ, zero, suc, ◌+◌, ◌-◌, ◌<◌, ◌≤◌, Bool, true, false, List, [], ◌∷◌, map, length, Option, None, Some, if◌then◌else◌, refl, sym, ap, ◌∙◌, subst, arith}
-use Rattle.std.specs.Prelude.{◌&&◌, ◌==◌, nat_lt, nat_le}
-use Rattle.std.specs.List.{list_all}
+use Rattle.std.proofs.Common.{◌≡◌, ℕ, ◌+◌, ◌-◌, ◌≤◌, true, false, List, [], length, Option, None, Some, refl, arith}
+use Rattle.std.specs.Prelude.{◌&&◌, ◌==◌, nat_le}
 use Rattle.std.specs.Option.{option_and_then}
-use Rattle.std.proofs.lemmas.Bool.{and_parts, lt-ltb, leb-true, leb-false}
+use Rattle.std.proofs.lemmas.Bool.{lt-ltb, leb-true, leb-false}
 use Rattle.clr_base.specs.declared.ids.FieldId.{FieldId}
 use Rattle.clr_base.specs.declared.ids.MethId.{MethId}
 use Rattle.cli_tables.specs.declared.schema.CodedIndex.TheVariants.{MemberRefParent}
@@ -17,8 +16,8 @@ use Rattle.type_tree.specs.Whole.{member_fits}
 use Rattle.world_build.specs.declared.cells.RowOf.{RowOf}
 use Rattle.world_build.specs.Cells.{rows, at, coded, loose, owner_of, rows_with}
 use Rattle.world_build.specs.MemberTable.{open_of, own_method, own_field}
-use Rattle.world_build.specs.References.{Reader, parent_type, ref_owner, begins_with, ref_blob, ref_name_id, ref_field_sig, ref_method_sig, field_member, method_member, found_field, found_method, member_ref, def_member, ref_member, named_member, owner_type, ref_owner_or_none, named_owner, method_only, spec_row, spec_args, spec_method, method_spec, spec_key_at, spec_key, impl_member, impl_of, impls_of}
-use Rattle.world_build.specs.Trees.{tree, nothing}
+use Rattle.world_build.specs.References.{Reader, parent_type, ref_owner, begins_with, ref_blob, ref_name_id, ref_field_sig, ref_method_sig, field_member, method_member, member_ref, def_member, ref_member, named_member, owner_type, named_owner, method_only, spec_row, spec_args, spec_method, method_spec, spec_key_at, spec_key, impl_member, impl_of, impls_of}
+use Rattle.world_build.specs.Trees.{tree}
 use Rattle.world_build.proofs.ListFacts.{choose, all_of_map, both}
 use Rattle.world_build.proofs.MembersFit.{own_method_within, own_field_within}
 use Rattle.world_build.proofs.TreesFit.{RowsFit, nothing_fits, def_type_fits, trees_fit, type_at_row_fits}

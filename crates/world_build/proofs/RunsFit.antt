@@ -1,19 +1,17 @@
 -- Where the checks of all rows pass, the runs of TypeDef rows are within their tables.
-use Rattle.std.proofs.Common.{◌≡◌, ◌⊎◌, inl, inr, ℕ, ◌+◌, ◌-◌, ◌<◌, ◌≤◌, Bool, true, false, List, Ok, get_or, length, min, if◌then◌else◌, refl, ap, ◌∙◌, subst, arith}
-use Rattle.std.specs.Prelude.{◌&&◌, ◌==◌, nat_le, nat_lt}
+use Rattle.std.proofs.Common.{◌≡◌, ℕ, ◌+◌, ◌-◌, ◌<◌, ◌≤◌, true, List, Ok, length, min, arith}
+use Rattle.std.specs.Prelude.{◌&&◌, nat_le, nat_lt}
 use Rattle.std.proofs.lemmas.Bool.{and_parts, leb-true, ltb-true, le-leb}
 use Rattle.clr_base.specs.Checks.{first_fault}
-use Rattle.cli_tables.specs.declared.schema.Column.TheVariants.{U8, Run}
 use Rattle.cli_tables.specs.Layout.{row_count}
 use Rattle.cli_tables.specs.Metadata.{Metadata}
 use Rattle.cli_tables.specs.Schema.{columns}
 use Rattle.type_tree.specs.declared.counts.Counts.{Counts}
-use Rattle.type_tree.specs.Fits.{is_within}
 use Rattle.world_build.specs.CoreTable.{core_methods}
-use Rattle.world_build.specs.Cells.{rows, at, run_end, run_len, before_run}
+use Rattle.world_build.specs.Cells.{rows, at, run_len, before_run}
 use Rattle.world_build.specs.MemberTable.{run_of, run_at}
 use Rattle.world_build.specs.Resolution.{rows_before}
-use Rattle.world_build.specs.Rows.{token, is_run, cell_before, cell_checks, ArePassed}
+use Rattle.world_build.specs.Rows.{is_run, cell_before, cell_checks, ArePassed}
 use Rattle.world_build.proofs.DefsFit.{RunFits}
 use Rattle.world_build.proofs.ListFacts.{choose}
 use Rattle.world_build.proofs.Passing.{one_passes, cell_passes, columns_pass, row_at, type_defs_pass}

@@ -1,21 +1,20 @@
 -- The checks of signatures, column by column.
-use Rattle.std.proofs.Common.{◌≡◌, ℕ, zero, suc, ◌+◌, ◌<◌, Bool, List, [], ◌++◌, ◌∷◌, length, take, drop, Ok, Err, sym, ap, ap₂, ◌∙◌, arith, get_or, refl}
+use Rattle.std.proofs.Common.{◌≡◌, ℕ, zero, suc, ◌+◌, ◌<◌, Bool, List, [], ◌++◌, ◌∷◌, length, take, drop, Ok, Err, sym, ap, ap₂, ◌∙◌, arith, get_or}
 use Rattle.std.specs.BTreeMap.{BTreeMap}
 use Rattle.std.specs.List.{flat_map}
 use Rattle.std.proofs.lemmas.Grind.{flat_map-append}
 use Rattle.std.proofs.lemmas.List.{drop_more, take_more, take-append-drop}
 use Rattle.clr_base.specs.declared.image_fault.ImageFault.{ImageFault}
 use Rattle.clr_base.specs.declared.image_fault.FaultKind.TheVariants.{BadSignature}
-use Rattle.clr_base.specs.Checks.{Check, check, first_fault, each}
-use Rattle.clr_base.proofs.Checks.{outcome_failed, outcome_passed, each_passed, each_failed}
-use Rattle.cli_tables.specs.Layout.{row_count}
+use Rattle.clr_base.specs.Checks.{Check, check, first_fault}
+use Rattle.clr_base.proofs.Checks.{outcome_failed, outcome_passed}
 use Rattle.cli_tables.specs.Metadata.{Metadata}
 use Rattle.cli_tables.specs.Schema.{columns}
 use Rattle.world_build.specs.declared.signature_checks.SigColumn.{SigColumn}
 use Rattle.world_build.specs.declared.signature_checks.TheConstants.{SIG_COLUMNS}
 use Rattle.world_build.specs.Cells.{at}
 use Rattle.world_build.specs.Rows.{token}
-use Rattle.world_build.specs.SignatureChecks.{is_signature_by, row_signature_checks, column_signature_checks, AreNotes}
+use Rattle.world_build.specs.SignatureChecks.{is_signature_by, row_signature_checks, AreNotes}
 
 -- ---- checks of each of some things, one after another
 

@@ -1,11 +1,10 @@
 -- The numbers in the trees of a file's types are below the counts of a world, where what its rows name is.
-use Rattle.std.proofs.Common.{◌≡◌, ℕ, zero, suc, ◌+◌, ◌-◌, ◌<◌, ◌≤◌, Bool, true, false, List, [], ◌∷◌, map, Option, None, Some, Result, Ok, Err, if◌then◌else◌, refl, sym, ap, ◌∙◌, subst, arith, inl, inr, slice_get}
+use Rattle.std.proofs.Common.{◌≡◌, ℕ, ◌+◌, ◌-◌, ◌<◌, ◌≤◌, Bool, true, false, List, [], ◌∷◌, map, Option, None, Some, refl, ap, ◌∙◌, arith, slice_get}
 use Rattle.std.specs.Prelude.{◌&&◌, ◌==◌, nat_lt, nat_le}
 use Rattle.std.specs.List.{list_all}
 use Rattle.std.proofs.lemmas.Bool.{and_parts, lt-ltb, ltb-true, leb-true}
 use Rattle.clr_base.specs.declared.ids.DefId.{DefId}
 use Rattle.cli_sigs.specs.declared.signature.SigTy.{SigTy}
-use Rattle.cli_sigs.specs.declared.signature.SigTy.TheVariants as sig
 use Rattle.cli_sigs.specs.declared.signature.SigTy.TheFolds.{fold-SigTy}
 use Rattle.cli_tables.specs.Metadata.{Metadata}
 use Rattle.cli_tables.specs.declared.schema.CodedIndex.TheVariants.{TypeDefOrRef}
@@ -24,9 +23,9 @@ use Rattle.world_build.specs.declared.type_rows.TypeRows.{TypeRows}
 use Rattle.world_build.specs.Cells.{rows, coded}
 use Rattle.world_build.specs.CoreLibrary.{plain}
 use Rattle.world_build.specs.CoreTable.{number_of}
-use Rattle.world_build.specs.Trees.{built_in, nothing, target_type, def_type, row_type, tree_step, tree, trees, spec_type, spec_sig, type_at_row, coded_type}
+use Rattle.world_build.specs.Trees.{built_in, nothing, target_type, def_type, row_type, tree_step, tree, trees, spec_type, spec_sig, type_at_row}
 use Rattle.world_build.proofs.ListFacts.{choose}
-use Rattle.world_build.proofs.SigFolds.{Cases, Known, types, by_variants, fold-BuiltIn, fold-Inst, fold-Array, fold-ByRef, fold-Ptr, fold-Var, fold-MVar, fold-Odd}
+use Rattle.world_build.proofs.SigFolds.{Known, types, by_variants, fold-BuiltIn, fold-Inst, fold-Array, fold-ByRef, fold-Ptr, fold-Var, fold-MVar, fold-Odd}
 
 -- ---- each variant fits where its parts do
 

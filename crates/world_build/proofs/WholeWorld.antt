@@ -1,23 +1,22 @@
 -- The world of files that pass their checks and are not too many is whole.
-use Rattle.std.proofs.Common.{◌≡◌, ◌≢◌, if◌then◌else◌, ℕ, zero, suc, ◌+◌, ◌-◌, ◌*◌, ◌<◌, ◌≤◌, Bool, true, false, List, [], ◌∷◌, ◌++◌, map, take, length, Option, None, Some, refl, sym, ap, ap₂, ◌∙◌, subst, arith, slice_get, replicate}
-use Rattle.std.specs.Prelude.{◌&&◌, nat_eq, nat_lt, nat_le, IsTrue}
+use Rattle.std.proofs.Common.{◌≡◌, ◌≢◌, if◌then◌else◌, ℕ, zero, suc, ◌+◌, ◌-◌, ◌<◌, ◌≤◌, Bool, true, List, [], ◌∷◌, ◌++◌, map, length, Option, None, Some, refl, sym, ap, ap₂, ◌∙◌, subst, arith, slice_get, replicate}
+use Rattle.std.specs.Prelude.{nat_eq}
 use Rattle.std.specs.Option.{option_map}
 use Rattle.std.specs.List.{list_all, flat_map, enumerate_from, range_with_len, sum_by}
 use Rattle.std.proofs.lemmas.Bool.{and_parts, lt-ltb, le-leb, eq-eqb, ne_eqb, eqb-true}
 use Rattle.std.proofs.lemmas.List.{length-append, length-replicate}
 use Rattle.std.proofs.lemmas.List.Sums.{sum_by-cons}
-use Rattle.std.proofs.lemmas.List.FromFn.{length-range_with_len, length-map-range_with_len}
+use Rattle.std.proofs.lemmas.List.FromFn.{length-map-range_with_len}
 use Rattle.cli_sigs.specs.declared.signature.SigTy.{SigTy}
 use Rattle.cli_tables.specs.Metadata.{Metadata}
 use Rattle.type_tree.specs.declared.counts.Counts.{Counts}
 use Rattle.type_tree.specs.declared.definition.Def.{Def}
-use Rattle.type_tree.specs.declared.parts.BodyPlace.{BodyPlace}
 use Rattle.type_tree.specs.declared.parts.Locals.{Locals}
 use Rattle.type_tree.specs.declared.parts.WorldFile.{WorldFile}
 use Rattle.type_tree.specs.Bodies.{bytes_of}
-use Rattle.type_tree.specs.Fits.{def_fits, method_fits, field_fits, key_fits, is_within}
+use Rattle.type_tree.specs.Fits.{def_fits, method_fits, field_fits, key_fits}
 use Rattle.type_tree.specs.Tokens as tokens
-use Rattle.type_tree.specs.Whole.{IsWhole, is_whole, most, are_in_order, member_fits, members_fit, locals_fit, lists_fit, file_fits, place_fits}
+use Rattle.type_tree.specs.Whole.{IsWhole, is_whole, most, are_in_order, member_fits, locals_fit, lists_fit, file_fits, place_fits}
 use Rattle.world_build.specs.Bodies.{body_of, file_bodies}
 use Rattle.world_build.specs.CoreLibrary as core
 use Rattle.world_build.specs.CoreTable.{core_defs, core_methods}
@@ -26,22 +25,21 @@ use Rattle.world_build.specs.Definitions.{def_of}
 use Rattle.world_build.specs.Image.{metadata_in}
 use Rattle.world_build.specs.MemberTable.{of_each, member_table, run_of}
 use Rattle.world_build.specs.Members.{file_methods, file_fields}
-use Rattle.world_build.specs.References.{Reader, member_ref, method_spec, impls_of}
+use Rattle.world_build.specs.References.{member_ref, method_spec, impls_of}
 use Rattle.world_build.specs.Resolution.{rows_before}
 use Rattle.world_build.specs.Signatures.{well_known, locals_in, listed, file_keys, row_sigs, locals_before, sigs_in, first_sig, run_at, locals_of}
 use Rattle.world_build.specs.World.{reader, file_defs, file_of, world_file, of_bytes, tables_in, no_body, world}
-use Rattle.world_build.specs.WorldNames.{names, file_names, type_rows}
+use Rattle.world_build.specs.WorldNames.{names, file_names}
 use Rattle.world_build.proofs.BodiesFit.{body_fits}
-use Rattle.world_build.proofs.CoreFits.{count_of_defs, count_of_methods, defs_fit_all, methods_fit_all, well_known_fit}
+use Rattle.world_build.proofs.CoreFits.{count_of_methods, defs_fit_all, methods_fit_all, well_known_fit}
 use Rattle.world_build.proofs.DefsFit.{def_of_fits, file_keys_fit}
 use Rattle.world_build.proofs.FileSums.{all_rows, rows_within, of_part, all_of_each}
 use Rattle.world_build.proofs.ListFacts.{all_of_map, all_of_range, all_of_both, there_is, both}
 use Rattle.world_build.proofs.MembersFit.{NamesFit, file_methods_fit, file_fields_fit}
-use Rattle.world_build.proofs.NamesCount.{named_rows, names_few, more_than_core}
+use Rattle.world_build.proofs.NamesCount.{names_few, more_than_core}
 use Rattle.world_build.proofs.NamesThere.{type_rows_fit, file_names_fit}
 use Rattle.world_build.proofs.ReferencesFit.{ReaderFits, member_ref_fits, method_spec_fits, impls_of_fit}
 use Rattle.world_build.proofs.RunsFit.{run_fits}
-use Rattle.world_build.proofs.TreesFit.{RowsFit}
 use Rattle.world_build.proofs.WorldCounts.{all_taken, def_total, method_total, field_total, sig_total}
 use Rattle.world_build.proofs.WorldFits.{AreFew, named_few, length_of_bytes, all_of_bytes, table_at, one_each}
 

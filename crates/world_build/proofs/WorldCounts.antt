@@ -1,9 +1,8 @@
 -- How many definitions, methods, fields and signatures a world has.
-use Rattle.std.proofs.Common.{◌≡◌, ℕ, zero, suc, ◌+◌, ◌*◌, ◌<◌, ◌≤◌, List, [], ◌∷◌, ◌++◌, map, take, length, refl, sym, ap, ap₂, ◌∙◌, arith, replicate}
-use Rattle.std.specs.List.{flat_map, range_with_len, sum_by}
+use Rattle.std.proofs.Common.{◌≡◌, ℕ, ◌+◌, List, [], ◌∷◌, ◌++◌, map, take, length, refl, sym, ap, ap₂, ◌∙◌, arith}
+use Rattle.std.specs.List.{flat_map, sum_by}
 use Rattle.std.proofs.Math.Seq.{take-length}
 use Rattle.std.proofs.lemmas.List.{length-append, length-map}
-use Rattle.std.proofs.lemmas.List.Concat.{length-flat_map}
 use Rattle.std.proofs.lemmas.List.FromFn.{length-range_with_len, length-map-range_with_len}
 use Rattle.std.proofs.lemmas.List.Sums.{sum_by-cons}
 use Rattle.cli_tables.specs.Metadata.{Metadata}
@@ -12,16 +11,16 @@ use Rattle.type_tree.specs.declared.tree.Ty.TheVariants as ty
 use Rattle.world_build.specs.declared.type_rows.TypeRows.{TypeRows}
 use Rattle.world_build.specs.CoreLibrary as core
 use Rattle.world_build.specs.CoreTable.{core_defs, core_methods}
-use Rattle.world_build.specs.Cells.{rows, rows_of, owner_of}
+use Rattle.world_build.specs.Cells.{rows, rows_of}
 use Rattle.world_build.specs.MemberTable.{of_each, member_table}
-use Rattle.world_build.specs.Members.{method_of, field_of, file_methods, file_fields}
-use Rattle.world_build.specs.References.{Reader, owner_type, ref_owner, spec_key}
-use Rattle.world_build.specs.Signatures.{well_known, types_in, row_types, owners_in, member_keys, locals_in, listed, local_keys, file_keys, row_sigs, locals_before, sigs_in, first_sig}
-use Rattle.world_build.specs.Trees.{tree, type_at_row}
+use Rattle.world_build.specs.Members.{file_methods, file_fields}
+use Rattle.world_build.specs.References.{Reader, spec_key}
+use Rattle.world_build.specs.Signatures.{well_known, types_in, row_types, owners_in, member_keys, locals_in, listed, local_keys, file_keys, row_sigs, locals_before, sigs_in}
+use Rattle.world_build.specs.Trees.{tree}
 use Rattle.world_build.specs.World.{reader, file_defs}
 use Rattle.world_build.specs.WorldNames.{file_names}
 use Rattle.world_build.proofs.CoreFits.{count_of_defs, count_of_methods}
-use Rattle.world_build.proofs.FileSums.{all_rows, length_of_each, of_part}
+use Rattle.world_build.proofs.FileSums.{all_rows, length_of_each}
 
 -- ---- definitions, methods, fields
 

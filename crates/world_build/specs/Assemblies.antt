@@ -1,5 +1,5 @@
 -- The names of assemblies by their numbers.
-use Rattle.std.specs.Prelude.{ℕ, ◌==◌, List, Bool, false, slice_get}
+use Rattle.std.specs.Prelude.{◌==◌, List, Bool, false, slice_get}
 use Rattle.std.specs.List.{list_any}
 use Rattle.std.specs.Option.{option_map_or}
 use Rattle.clr_base.specs.declared.ids.NameId.{NameId}

@@ -13,7 +13,7 @@ use Rattle.world_build.specs.Cells.{rows}
 use Rattle.world_build.specs.References.{begins_with}
 use Rattle.world_build.specs.Rows.{token}
 use Rattle.world_build.specs.SignatureChecks.{blob_by}
-use Rattle.world_build.specs.Signatures.{listed, row_sigs, locals_before, sigs_in}
+use Rattle.world_build.specs.Signatures.{listed, locals_before, sigs_in}
 use Rattle.world_build.specs.Trees.{row_counts, value_or}
 
 -- those of the core library and of some files; of signatures the core has three

@@ -1,5 +1,5 @@
 -- The definitions of files (ECMA-335 II.22.37), with the rows that tell more of them.
-use Rattle.std.specs.Prelude.{ℕ, ◌+◌, ◌-◌, List, map, Option, None, Some, get_or}
+use Rattle.std.specs.Prelude.{ℕ, ◌-◌, List, map, Option, None, Some, get_or}
 use Rattle.std.specs.Option.{option_map_or}
 use Rattle.cli_tables.specs.declared.schema.CodedIndex.TheVariants.{TypeDefOrRef}
 use Rattle.cli_tables.specs.Metadata.{Metadata}

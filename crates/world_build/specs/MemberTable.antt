@@ -1,5 +1,5 @@
 -- The members of a world by their definitions, and those that a name and a signature find.
-use Rattle.std.specs.Prelude.{ℕ, ◌+◌, ◌==◌, ◌&&◌, List, [], ◌∷◌, ◌++◌, map, length, Bool, true, false, Option, None, Some, slice_get, get_or}
+use Rattle.std.specs.Prelude.{ℕ, ◌+◌, ◌==◌, ◌&&◌, List, [], ◌∷◌, ◌++◌, map, length, Bool, true, false, Option, slice_get, get_or}
 use Rattle.std.specs.Option.{option_map, option_map_or, option_and_then}
 use Rattle.std.specs.List.{find, range_with_len, flat_map, enumerate_from}
 use Rattle.std.proofs.Math.ListN.{replicate}
@@ -9,7 +9,6 @@ use Rattle.clr_base.specs.declared.ids.NameId.{NameId}
 use Rattle.cli_sigs.specs.declared.signature.SigMethod.{SigMethod}
 use Rattle.cli_tables.specs.Metadata.{Metadata}
 use Rattle.type_tree.specs.declared.definition.Def.{Def}
-use Rattle.type_tree.specs.declared.definition.Field.{Field}
 use Rattle.type_tree.specs.declared.definition.Method.{Method}
 use Rattle.type_tree.specs.declared.tree.Ty.{Ty}
 use Rattle.type_tree.specs.contracts.tree.Ty as row-of-ty

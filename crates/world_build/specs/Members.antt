@@ -1,8 +1,7 @@
 -- Methods and fields of files (ECMA-335 II.22.15, II.22.26).
-use Rattle.std.specs.Prelude.{ℕ, ◌+◌, ◌-◌, ◌*◌, ◌==◌, ◌&&◌, nat_le, List, [], map, length, false, Option, None, Some, get_or, if◌then◌else◌}
+use Rattle.std.specs.Prelude.{ℕ, ◌+◌, ◌-◌, ◌*◌, ◌&&◌, nat_le, List, [], map, false, Option, get_or, if◌then◌else◌}
 use Rattle.std.specs.Option.{option_map}
 use Rattle.clr_base.specs.declared.ids.DefId.{DefId}
-use Rattle.clr_base.specs.declared.ids.NameId.{NameId}
 use Rattle.cli_sigs.specs.declared.signature.SigMethod.{SigMethod}
 use Rattle.cli_sigs.specs.declared.signature.SigTy.{SigTy}
 use Rattle.cli_sigs.specs.declared.signature.SigTy.TheVariants as sig

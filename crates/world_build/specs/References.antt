@@ -1,7 +1,6 @@
 -- What MemberRef, MethodSpec and MethodImpl rows name (ECMA-335 II.22.25, II.22.29, II.22.27).
 use Rattle.std.specs.Prelude.{ℕ, ◌+◌, ◌-◌, ◌==◌, ◌&&◌, nat_le, List, [], ◌∷◌, map, Bool, false, Option, None, Some, if◌then◌else◌}
 use Rattle.std.specs.Option.{option_and_then}
-use Rattle.clr_base.specs.declared.ids.DefId.{DefId}
 use Rattle.clr_base.specs.declared.ids.FieldId.{FieldId}
 use Rattle.clr_base.specs.declared.ids.MethId.{MethId}
 use Rattle.clr_base.specs.declared.ids.NameId.{NameId}
@@ -17,7 +16,6 @@ use Rattle.type_tree.specs.declared.parts.Member.TheVariants as member
 use Rattle.type_tree.specs.declared.tree.Key.{Key}
 use Rattle.type_tree.specs.declared.tree.Key.TheVariants.{Tree, Meth}
 use Rattle.type_tree.specs.declared.tree.Ty.{Ty}
-use Rattle.type_tree.specs.declared.tree.Ty.TheVariants as ty
 use Rattle.type_tree.specs.Kinds.{head}
 use Rattle.world_build.specs.declared.cells.RowOf.{RowOf}
 use Rattle.world_build.specs.declared.member_table.MemberTable.{MemberTable}

@@ -1,7 +1,7 @@
 -- What checks that need memory answer.
 use Rattle.std.specs.Prelude.{◌≡◌, List, Result, Ok, Err}
 use Rattle.clr_base.specs.declared.image_fault.ImageFault.{ImageFault}
-use Rattle.clr_base.specs.Checks.{Check, outcome, first_fault}
+use Rattle.clr_base.specs.Checks.{Check, first_fault}
 use Rattle.world_build.specs.declared.refusal.Refusal.{Refusal}
 use Rattle.world_build.specs.declared.refusal.Refusal.TheVariants.{Fault, Memory}
 

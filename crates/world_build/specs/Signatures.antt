@@ -2,13 +2,12 @@
 use Rattle.std.specs.Prelude.{ℕ, ◌+◌, ◌*◌, List, [], ◌∷◌, ◌++◌, map, length, sum_by, take, Option, None, Some, if◌then◌else◌}
 use Rattle.std.specs.Option.{option_map}
 use Rattle.std.specs.List.{flat_map, enumerate_from}
-use Rattle.clr_base.specs.declared.ids.SigId.{SigId}
 use Rattle.cli_sigs.specs.declared.signature.SigTy.{SigTy}
 use Rattle.cli_sigs.specs.Signatures.{placed, locals_at}
 use Rattle.cli_tables.specs.Metadata.{Metadata}
 use Rattle.type_tree.specs.declared.parts.Locals.{Locals}
 use Rattle.type_tree.specs.declared.tree.Key.{Key}
-use Rattle.type_tree.specs.declared.tree.Key.TheVariants.{Tree, Meth}
+use Rattle.type_tree.specs.declared.tree.Key.TheVariants.{Tree}
 use Rattle.type_tree.specs.declared.tree.Ty.{Ty}
 use Rattle.type_tree.specs.declared.tree.Ty.TheVariants as ty
 use Rattle.world_build.specs.declared.core_type.CoreType.TheVariants.{String, TypeObject}

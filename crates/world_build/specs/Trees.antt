@@ -1,6 +1,5 @@
 -- The trees of types that a file's rows and signatures mean.
-use Rattle.std.specs.Prelude.{ℕ, ◌+◌, ◌-◌, ◌^◌, ◌≤◌, ◌==◌, ◌&&◌, nat_le, List, [], map, Bool, true, false, Option, None, Some, Result, Ok, Err, slice_get, if◌then◌else◌}
-use Rattle.clr_base.specs.declared.ids.DefId.{DefId}
+use Rattle.std.specs.Prelude.{ℕ, ◌+◌, ◌-◌, ◌^◌, ◌≤◌, ◌==◌, ◌&&◌, nat_le, List, [], map, Bool, false, Option, None, Some, Result, Ok, Err, slice_get, if◌then◌else◌}
 use Rattle.clr_base.specs.declared.ids.NameId.{NameId}
 use Rattle.cli_sigs.specs.declared.signature.RowCounts.{RowCounts}
 use Rattle.cli_sigs.specs.declared.signature.SigTy.{SigTy}

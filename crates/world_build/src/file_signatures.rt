@@ -58,11 +58,7 @@ fn push_row_types(
 }
 
 /// Appends the owner of each MemberRef row.
-fn push_ref_owners(
-    alloc: Global,
-    reader: &Reader<'_, '_>,
-    keys: &mut KeyList,
-) -> Result<(), Memory>
+fn push_ref_owners(alloc: Global, reader: &Reader<'_, '_>, keys: &mut KeyList) -> Result<(), Memory>
     ensures { OnOk result (keys.new ≡ keys.old ++ map (λ row. key.Tree (references.ref_owner reader.now row)) (rows_of reader.now.tables 0x0A)) }
 {
     for row in 0..reader.tables().row_count(MEMBER_REF) {
@@ -111,9 +107,11 @@ fn push_members(
 pub fn row_sigs(tables: &Tables<'_>) -> u32
     ensures { result ≡ spec.row_sigs tables.now }
 {
-    let types =
-        tables.row_count(TYPE_DEF) + tables.row_count(TYPE_REF) + tables.row_count(TYPE_SPEC);
-    let members = tables.row_count(FIELD) + tables.row_count(METHOD_DEF)
+    let types = tables.row_count(TYPE_DEF)
+        + tables.row_count(TYPE_REF)
+        + tables.row_count(TYPE_SPEC);
+    let members = tables.row_count(FIELD)
+        + tables.row_count(METHOD_DEF)
         + tables.row_count(MEMBER_REF)
         + tables.row_count(METHOD_SPEC);
     2 * types + members

@@ -6,8 +6,8 @@ ghost use Rattle.world_build.specs.References as references;
 ghost use Rattle.world_build.specs.Signatures.{locals_of};
 ghost use Rattle.world_build.specs.World as spec;
 
-use crate::owners::loose;
 use crate::method_specs::method_spec;
+use crate::owners::loose;
 use crate::reader::Reader;
 use crate::rows::{METHOD_DEF, TYPE_DEF};
 use clr_base::{Bytes, FieldId, Memory, MethId, SigId};

@@ -91,7 +91,9 @@ fn push_file(
     let bodies = file_bodies(alloc, bytes, file + 1, reader.tables())?;
     parts.bodies.append(bodies)?;
     let locals = push_signatures(alloc, reader, refs.as_slice(), firsts.sig, &mut parts.sigs)?;
-    parts.files.push(file_tokens(alloc, reader, bytes, firsts, refs, locals)?)?;
+    parts
+        .files
+        .push(file_tokens(alloc, reader, bytes, firsts, refs, locals)?)?;
     Ok(())
 }
 

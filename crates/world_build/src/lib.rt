@@ -66,7 +66,10 @@ pub use bodies::file_bodies;
 pub use building::{BuildFault, build};
 pub use cells::RowOf;
 pub use core_parts::{CoreParts, core_library};
-pub use core_table::{CORE_DEFS, CORE_METHODS, CORE_NAMES, DEF_COUNT, NAME_COUNT, CoreDef, CoreMethod, DefKind, FormalKind, MemberName, MethodKind, Params, SigType, core_name, def_row, method_rows};
+pub use core_table::{
+    CORE_DEFS, CORE_METHODS, CORE_NAMES, CoreDef, CoreMethod, DEF_COUNT, DefKind, FormalKind,
+    MemberName, MethodKind, NAME_COUNT, Params, SigType, core_name, def_row, method_rows,
+};
 pub use core_type::CoreType;
 pub use counts::Totals;
 pub use file_names::FileNames;

@@ -79,7 +79,16 @@ pub fn file_world(
     let members = all_members(alloc, core_defs.as_slice(), core_methods, tables, called)?;
     let index = MemberIndex::new(alloc, &members)?;
     let mut parts = of_core(alloc, core_defs, method_count)?;
-    push_files(alloc, &named.names, &members, &index, called, files, tables, &mut parts)?;
+    push_files(
+        alloc,
+        &named.names,
+        &members,
+        &index,
+        called,
+        files,
+        tables,
+        &mut parts,
+    )?;
     Ok(WorldParts {
         names: named.names.texts(alloc)?,
         defs: parts.defs,

@@ -1,4 +1,4 @@
-use Rattle.std.proofs.Common.{◌≡◌, ◌+◌, ◌≤◌, ◌∙◌, length, sym, ap, subst, arith}
+use Rattle.std.proofs.Common.{◌∙◌, length, sym, ap, subst, arith}
 use Rattle.type_tree.specs.declared.parts.WorldParts.{WorldParts}
 use Rattle.type_tree.specs.Whole.{IsWhole}
 use Rattle.world_build.specs.Images.{bytes_of_each}

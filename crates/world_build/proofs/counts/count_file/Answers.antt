@@ -1,9 +1,8 @@
-use Rattle.std.proofs.Common.{◌≡◌, true, [], ◌∷◌, Ok, Err, sym, ap, ap₂, ◌∙◌}
+use Rattle.std.proofs.Common.{◌≡◌, true, [], ◌∷◌, sym, ap₂, ◌∙◌}
 use Rattle.std.proofs.lemmas.Result.{err_from_is_err_and}
 use Rattle.clr_base.specs.Checks.{check, first_fault}
 use Rattle.clr_base.specs.declared.image_fault.FaultKind.TheVariants.{TooMany}
 use Rattle.world_build.specs.Counts.{are_few, with_file}
-use Rattle.world_build.specs.Rows.{token}
 use Rattle.world_build.proofs.FewEnough.{count_passes, count_fails}
 use Rattle.world_build.proofs.Giving.{gives_fault}
 use Rattle.world_build.proofs.Passing.{one_passes}

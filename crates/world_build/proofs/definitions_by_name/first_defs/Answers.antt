@@ -1,6 +1,4 @@
-use Rattle.std.proofs.Common.{◌≡◌, ℕ, ◌+◌, ap, ◌∙◌, arith, length, get_or}
-use Rattle.world_build.specs.Nesting.{enclosing_row}
-use Rattle.world_build.specs.TypeKeys.{keys_of}
+use Rattle.std.proofs.Common.{◌+◌, ap, ◌∙◌, arith, length, get_or}
 use Rattle.world_build.proofs.KeyLists.{finds_ok, keys_count, outer_count, outer_keys}
 use Rattle.world_build.proofs.definitions_by_name.first_defs.Goals as goal
 

@@ -24,8 +24,8 @@ returns c =
     c.loop-row.invariant
     ∙ ap
     (λ n.
-        c.args.defs.now
-        ++ map
-        (λ r. def_of c.args.names.now w.tables c.args.file (run_at c.args.fields_before c.args.methods_before w.tables r) (impls_of w r) r)
-        (range_with_len 1 n))
+    c.args.defs.now
+    ++ map
+    (λ r. def_of c.args.names.now w.tables c.args.file (run_at c.args.fields_before c.args.methods_before w.tables r) (impls_of w r) r)
+    (range_with_len 1 n))
     (count ∙ ap (λ m. rows m 0x02) c.tables-tables.ensures)

@@ -1,6 +1,5 @@
 use Rattle.std.proofs.Common.{◌≡◌, ◌++◌, map}
 use Rattle.std.specs.List.{range_with_len}
-use Rattle.type_tree.specs.declared.tree.Key.TheVariants as key
 use Rattle.world_build.specs.References.{spec_key}
 use Rattle.world_build.proofs.file_signatures.push_spec_keys.Given as goal
 

@@ -1,4 +1,4 @@
-use Rattle.std.proofs.Common.{◌≡◌, ℕ, ◌+◌, ◌<◌, [], ◌∷◌, length, refl, sym, ap, ap₂, ◌∙◌, arith}
+use Rattle.std.proofs.Common.{ℕ, ◌+◌, ◌<◌, [], ◌∷◌, length, refl, sym, ap, ap₂, ◌∙◌, arith}
 use Rattle.std.specs.Prelude.{Vec}
 use Rattle.std.specs.declared.alloc.Global.{Global}
 use Rattle.std.proofs.lemmas.List.{append-nil, length-map}
@@ -10,7 +10,7 @@ use Rattle.world_build.specs.Signatures.{file_keys, sigs_in}
 use Rattle.world_build.specs.World.{file_defs, reader, world_file}
 use Rattle.world_build.proofs.EachBytes.{bytes_file}
 use Rattle.world_build.proofs.EachFile.{each_file}
-use Rattle.world_build.proofs.FileParts.{can_read, defs_are, fields_small, image_is, methods_small, numbered, reader_is, sigs_before, sigs_small, slice_get_map, tokens_are}
+use Rattle.world_build.proofs.FileParts.{can_read, defs_are, fields_small, image_is, methods_small, reader_is, sigs_before, sigs_small, slice_get_map, tokens_are}
 use Rattle.world_build.proofs.PerFile.{before_more, before_none, names_count, names_read}
 use Rattle.world_build.proofs.file_worlds.push_files.Goals as goal
 
@@ -94,9 +94,9 @@ loop-file-preserved c =
     let called = names_read files k m c.args.called.now n n there c.requires.called c.index-called-file.is in
     let before = c.loop-file.invariant in
     let read =
-        c.in_ok-reader.ensures
-        ∙ reader_is files k m c.args.names.now c.args.members.now n (98 + c.loop-file.before.methods) c.requires.names c.requires.members called
-        (ap (λ (x : ℕ). 98 + x) before.methods)
+    c.in_ok-reader.ensures
+    ∙ reader_is files k m c.args.names.now c.args.members.now n (98 + c.loop-file.before.methods) c.requires.names c.requires.members called
+    (ap (λ (x : ℕ). 98 + x) before.methods)
     in
     let own = ap (λ w. w.tables) c.in_ok-reader.ensures in
     let count = ap length c.requires.images ∙ length-map bytes metadata_in ∙ length-map c.args.files.now (λ (file : Vec ℕ Global). file.items) in

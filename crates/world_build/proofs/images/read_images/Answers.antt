@@ -1,4 +1,4 @@
-use Rattle.std.proofs.Common.{arith, ◌≡◌, true, ◌+◌, [], ◌∷◌, ◌++◌, Err, drop, map, sym, ap, ap₂, ◌∙◌}
+use Rattle.std.proofs.Common.{arith, ◌+◌, [], ◌∷◌, ◌++◌, Err, drop, map, sym, ap, ap₂, ◌∙◌}
 use Rattle.std.proofs.lemmas.Grind.{common_steps}
 use Rattle.clr_base.proofs.Checks.{outcome_value}
 use Rattle.world_build.specs.Counts.{are_few, totals_of, with_file}

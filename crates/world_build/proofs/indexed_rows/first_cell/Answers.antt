@@ -1,4 +1,4 @@
-use Rattle.std.proofs.Common.{ℕ, Option, Some, ◌∙◌, sym, ap}
+use Rattle.std.proofs.Common.{ℕ, Some, ◌∙◌, sym, ap}
 use Rattle.std.specs.Option.{option_map}
 use Rattle.world_build.specs.Cells.{at}
 use Rattle.world_build.proofs.RowLists.{first_given, first_row}

@@ -1,10 +1,9 @@
-use Rattle.std.proofs.Common.{◌≡◌, ℕ, [], ◌∷◌, ◌<◌, ◌+◌, ◌++◌, ◌≤◌, ◌∙◌, map, length, refl, sym, ap, ap₂, arith}
+use Rattle.std.proofs.Common.{ℕ, [], ◌∷◌, ◌<◌, ◌+◌, ◌++◌, ◌∙◌, map, length, refl, sym, ap, ap₂, arith}
 use Rattle.std.specs.Option.{option_map, option_map_or}
-use Rattle.std.specs.List.{enumerate_from, range_with_len}
 use Rattle.std.proofs.lemmas.List.{append-nil}
 use Rattle.type_tree.specs.declared.tree.Key.TheVariants as key
 use Rattle.world_build.specs.Cells.{rows}
-use Rattle.world_build.specs.Signatures.{listed, locals_in, locals_before, locals_of, local_keys, row_sigs, run_at, sigs_in}
+use Rattle.world_build.specs.Signatures.{listed, locals_in, run_at, sigs_in}
 use Rattle.world_build.specs.Trees.{tree}
 use Rattle.world_build.proofs.LocalsCount.{locals_more, locals_most, count_placed, locals_none}
 use Rattle.world_build.proofs.Pushed.{appended, enumerate_row}

@@ -1,4 +1,4 @@
-use Rattle.std.proofs.Common.{◌≡◌, ◌∙◌, sym, ap}
+use Rattle.std.proofs.Common.{◌∙◌, sym, ap}
 use Rattle.cli_tables.specs.Metadata.{Metadata}
 use Rattle.world_build.specs.MemberRefs.{cells_of}
 use Rattle.world_build.proofs.RefNotes.{noted_is, noted_more}

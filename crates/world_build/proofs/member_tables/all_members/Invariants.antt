@@ -1,5 +1,4 @@
-use Rattle.std.proofs.Common.{◌≡◌, ◌+◌, ◌*◌, ◌≤◌, ◌++◌, [], map, take, length, replicate}
-use Rattle.cli_tables.specs.Metadata.{Metadata}
+use Rattle.std.proofs.Common.{◌≡◌, ◌*◌, ◌≤◌, ◌++◌, [], map, take, length, replicate}
 use Rattle.world_build.specs.Cells.{rows_of}
 use Rattle.world_build.specs.CoreLibrary as core
 use Rattle.world_build.specs.MemberTable.{core_run, of_each, run_of}

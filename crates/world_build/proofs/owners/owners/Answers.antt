@@ -1,4 +1,4 @@
-use Rattle.std.proofs.Common.{◌≤◌, ◌+◌, replicate, ◌∙◌, ap, arith, rules}
+use Rattle.std.proofs.Common.{replicate, ◌∙◌, ap, arith, rules}
 use Rattle.world_build.proofs.Runs.{owned_none, owned_more, owned_all}
 use Rattle.world_build.proofs.owners.owners.Goals as goal
 

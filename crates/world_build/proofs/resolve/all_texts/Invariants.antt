@@ -1,4 +1,4 @@
-use Rattle.std.proofs.Common.{◌≡◌, ◌+◌, ◌*◌, ◌≤◌, length}
+use Rattle.std.proofs.Common.{◌+◌, ◌*◌, ◌≤◌, length}
 use Rattle.world_build.specs.TypeTexts.{Extends}
 use Rattle.world_build.proofs.Finders.{AreTextsOf}
 use Rattle.world_build.proofs.resolve.all_texts.Given as goal

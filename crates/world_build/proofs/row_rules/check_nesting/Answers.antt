@@ -1,4 +1,4 @@
-use Rattle.std.proofs.Common.{◌≡◌, [], ◌∷◌, ◌&&◌, not, nat_lt, false, get_or, length, sym, ap, ◌∙◌, arith}
+use Rattle.std.proofs.Common.{[], ◌∷◌, ◌&&◌, not, nat_lt, false, get_or, length, ap, ◌∙◌, arith}
 use Rattle.clr_base.specs.Checks.{check, first_fault}
 use Rattle.clr_base.specs.declared.image_fault.FaultKind.TheVariants.{BadIndex}
 use Rattle.world_build.proofs.Enclosing.{nesting_column}

@@ -1,4 +1,4 @@
-use Rattle.std.proofs.Common.{◌≡◌, ◌-◌, [], ◌∷◌, nat_eq, get_or, length, sym, ap, ◌∙◌, arith}
+use Rattle.std.proofs.Common.{[], ◌∷◌, nat_eq, get_or, length, ap, ◌∙◌, arith}
 use Rattle.clr_base.specs.Checks.{check, first_fault}
 use Rattle.clr_base.specs.declared.image_fault.FaultKind.TheVariants.{BadIndex}
 use Rattle.world_build.proofs.Noted.{generic_column, owner_within, more_owned, noted, noted_few, number_fault}

@@ -1,4 +1,4 @@
-use Rattle.std.proofs.Common.{◌≡◌, ◌++◌, ◌+◌, ◌∙◌, false, get_or, ap, arith}
+use Rattle.std.proofs.Common.{◌∙◌, false, get_or, ap, arith}
 use Rattle.type_tree.specs.declared.tree.Key.TheVariants as key
 use Rattle.world_build.specs.Cells.{owner_of, rows}
 use Rattle.world_build.specs.References.{owner_type}

@@ -1,9 +1,8 @@
-use Rattle.std.proofs.Common.{◌≡◌, ◌++◌, ◌+◌, ◌∙◌, Some, refl, ap, sym, arith}
+use Rattle.std.proofs.Common.{Some, ap, arith}
 use Rattle.type_tree.specs.declared.tree.Key.TheVariants as key
-use Rattle.world_build.specs.Cells.{rows_of}
 use Rattle.world_build.specs.Signatures.{types_in}
 use Rattle.world_build.specs.Trees.{type_at_row}
-use Rattle.world_build.proofs.Pushed.{map_map, pushed, all_pushed}
+use Rattle.world_build.proofs.Pushed.{pushed, all_pushed}
 use Rattle.world_build.proofs.row_signatures.push_types.Goals as goal
 
 pub loop-row-preserved : goal.loop-row-preserved

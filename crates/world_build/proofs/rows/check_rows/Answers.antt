@@ -1,4 +1,4 @@
-use Rattle.std.proofs.Common.{◌≡◌, ◌+◌, ◌<◌, length, slice_index, Ok, subst, arith}
+use Rattle.std.proofs.Common.{◌≡◌, length, slice_index, Ok, subst, arith}
 use Rattle.std.proofs.lemmas.Result.{err_from_is_err_and}
 use Rattle.clr_base.proofs.Checks.{each_none, each_passed, each_failed}
 use Rattle.clr_base.specs.Checks.{first_fault, each}

@@ -1,7 +1,5 @@
-use Rattle.std.proofs.Common.{◌≡◌, ◌+◌, ◌<◌, length, Ok, subst, arith, take}
+use Rattle.std.proofs.Common.{arith}
 use Rattle.std.proofs.lemmas.Result.{err_from_is_err_and}
-use Rattle.std.specs.List.{flat_map}
-use Rattle.clr_base.specs.Checks.{first_fault}
 use Rattle.world_build.specs.declared.signature_checks.TheConstants.{SIG_COLUMNS}
 use Rattle.world_build.specs.SignatureChecks.{column_signature_checks, signature_checks}
 use Rattle.world_build.proofs.Giving.{gives_on}

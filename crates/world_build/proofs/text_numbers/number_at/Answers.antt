@@ -1,5 +1,3 @@
-use Rattle.std.proofs.Common.{ap, ◌∙◌}
-use Rattle.std.specs.Str.{bytes_eq}
 use Rattle.world_build.proofs.Numbered.{noted_more}
 use Rattle.world_build.proofs.text_numbers.number_at.Goals as goal
 

@@ -1,4 +1,4 @@
-use Rattle.std.proofs.Common.{◌≡◌, ℕ, ◌+◌, ◌∙◌, ap, arith}
+use Rattle.std.proofs.Common.{ℕ, ◌∙◌, ap, arith}
 use Rattle.std.specs.Str.{bytes_eq}
 use Rattle.world_build.specs.Cells.{text}
 use Rattle.world_build.specs.Names.{with_one}

@@ -1,4 +1,4 @@
-use Rattle.std.proofs.Common.{◌≡◌, ℕ, arith}
+use Rattle.std.proofs.Common.{◌≡◌, arith}
 use Rattle.world_build.specs.TypeTexts.{core_namespace}
 use Rattle.world_build.proofs.TextNumbers.{first_none, first_more, first_few, first_extends, first_numbers}
 use Rattle.world_build.proofs.type_texts.core_namespaces.Goals as goal

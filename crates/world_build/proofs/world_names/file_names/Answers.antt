@@ -1,4 +1,3 @@
-use Rattle.std.proofs.Common.{◌∙◌, ap, arith}
 use Rattle.std.proofs.lemmas.Option.{slice_get_within}
 use Rattle.world_build.proofs.FileRows.{file_names_after, file_settled}
 use Rattle.world_build.proofs.world_names.file_names.Goals as goal

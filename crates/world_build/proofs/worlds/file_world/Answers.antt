@@ -1,4 +1,4 @@
-use Rattle.std.proofs.Common.{◌≡◌, ◌+◌, ◌++◌, ◌∙◌, [], ◌∷◌, length, replicate, ap, refl}
+use Rattle.std.proofs.Common.{◌+◌, ◌++◌, ◌∙◌, [], ◌∷◌, length, replicate, ap}
 use Rattle.world_build.specs.CoreLibrary.{core_library}
 use Rattle.world_build.specs.Images.{bytes_of_each}
 use Rattle.world_build.specs.MemberTable.{of_each}

@@ -1,6 +1,5 @@
-use Rattle.std.proofs.Common.{◌≡◌, ℕ, ◌+◌, ◌<◌, ◌≤◌, List, get_or, length, ap, ◌∙◌, subst, arith}
+use Rattle.std.proofs.Common.{ℕ, ◌+◌, ◌<◌, ◌≤◌, List, get_or, length, ap, ◌∙◌, subst, arith}
 use Rattle.cli_tables.specs.Metadata.{Metadata}
-use Rattle.world_build.specs.Numbering.{AreFirsts}
 use Rattle.world_build.specs.Resolution.{first_def}
 use Rattle.world_build.proofs.Firsts.{first_inside, first_read}
 use Rattle.world_build.proofs.def_numbers.DefNumbers.first.Goals as goal

@@ -1,4 +1,4 @@
-use Rattle.std.proofs.Common.{◌+◌, ◌-◌, ◌∙◌, arith}
+use Rattle.std.proofs.Common.{◌+◌, ◌∙◌, arith}
 use Rattle.world_build.proofs.Named.{named_more, named_all, name_at}
 use Rattle.world_build.proofs.member_groups.MemberGroups.new.Goals as goal
 

@@ -1,4 +1,4 @@
-use Rattle.std.proofs.Common.{◌≡◌, ◌<◌, ℕ, List, ap, sym, ◌∙◌, arith, length, get_or}
+use Rattle.std.proofs.Common.{◌≡◌, ◌<◌, List, ap, sym, ◌∙◌, arith, length, get_or}
 use Rattle.world_build.specs.declared.type_texts.FileTexts.{FileTexts}
 use Rattle.world_build.proofs.AssemblyNames.{no_others, others_more, file_first, file_none}
 use Rattle.world_build.proofs.type_finder.TypeFinder.file_named.Goals as goal

@@ -1,4 +1,4 @@
-use Rattle.std.proofs.Common.{◌≡◌, ℕ, ap, ◌∙◌, arith, length}
+use Rattle.std.proofs.Common.{◌≡◌, ap, ◌∙◌, arith, length}
 use Rattle.world_build.specs.TypeKeys.{first_of}
 use Rattle.world_build.proofs.FirstKeys.{first_step}
 use Rattle.world_build.proofs.type_keys.FirstPlaces.new.Goals as goal
