@@ -11,6 +11,7 @@ pub mod FullTypeNames
 pub mod Giving
 pub mod Inside
 pub mod ListFacts
+pub mod ManyImages
 pub mod MemberLists
 pub mod MembersFit
 pub mod NameLemmas

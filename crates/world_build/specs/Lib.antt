@@ -4,6 +4,7 @@ pub mod CoreLibrary
 pub mod CoreTable
 pub mod Definitions
 pub mod Image
+pub mod Images
 pub mod MemberTable
 pub mod Members
 pub mod Names

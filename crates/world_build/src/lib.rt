@@ -13,6 +13,7 @@ mod file_rows;
 mod formals;
 mod full_names;
 mod image;
+mod images;
 mod indexed_rows;
 mod member_table;
 mod members;
@@ -40,6 +41,7 @@ pub use core_table::{
 pub use core_type::CoreType;
 pub use file_names::FileNames;
 pub use image::read_image;
+pub use images::{ImagesFault, read_images};
 pub use member_table::{MemberTable, Run};
 pub use names::Names;
 pub use nesting::enclosing_rows;

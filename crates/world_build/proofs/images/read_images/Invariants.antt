@@ -1,0 +1,13 @@
+use Rattle.std.proofs.Common.{◌≡◌, All, length, take, drop}
+use Rattle.world_build.specs.Images.{bytes_of_each, images_of, images_behind}
+use Rattle.world_build.specs.Rows.{ArePassed}
+use Rattle.world_build.specs.World.{tables_in}
+use Rattle.world_build.proofs.images.read_images.Given as goal
+
+abbrev pub invariant-loop-k : goal.invariant-loop-k
+invariant-loop-k l = record {
+  count : length l.images ≡ l.k;
+  all : l.images ≡ tables_in (bytes_of_each (take l.k l.files));
+  behind : images_of (bytes_of_each l.files) ≡ images_behind l.images (bytes_of_each (drop l.k l.files));
+  rows : All ArePassed l.images;
+}

@@ -1,0 +1,38 @@
+-- Several files: the metadata of all, or the first fault of the first of them that has one.
+use Rattle.std.specs.Prelude.{◌≡◌, ℕ, ◌+◌, List, [], ◌∷◌, ◌++◌, map, length, Result, Ok, Err, Vec}
+use Rattle.std.specs.declared.alloc.Global.{Global}
+use Rattle.clr_base.specs.declared.image_fault.ImageFault.{ImageFault}
+use Rattle.clr_base.specs.Checks.{Check, first_fault}
+use Rattle.cli_tables.specs.Metadata.{Metadata}
+use Rattle.world_build.specs.declared.images.ImagesFault.{ImagesFault}
+use Rattle.world_build.specs.declared.images.ImagesFault.TheVariants.{Image, Memory}
+use Rattle.world_build.specs.Image.{metadata_in, image_checks}
+
+-- the bytes of each file
+abbrev pub bytes_of_each : List (Vec ℕ Global) → List (List ℕ)
+bytes_of_each files = map (λ file. file.items) files
+
+-- the checks of a file, in order, where the metadata of the files before it is given
+abbrev pub file_checks : List Metadata → List ℕ → List Check
+file_checks before bytes = image_checks bytes
+
+-- the fault of the file with a number, or what the files behind it give
+abbrev pub or_fault : ℕ → Result (Unit {0}) ImageFault → Result (List Metadata) (ℕ × ImageFault) → Result (List Metadata) (ℕ × ImageFault)
+or_fault number (Ok x) behind = behind
+or_fault number (Err fault) behind = Err (number, fault)
+
+-- the metadata of some files, and of those behind them
+unfoldable pub images_behind : List Metadata → List (List ℕ) → Result (List Metadata) (ℕ × ImageFault)
+images_behind before [] = Ok before
+images_behind before (bytes ∷ files) =
+    or_fault (length before + 1) (first_fault (file_checks before bytes)) (images_behind (before ++ metadata_in bytes ∷ []) files)
+
+-- The metadata of all files, or the number of the first that is refused, counted from 1, with its first fault.
+abbrev pub images_of : List (List ℕ) → Result (List Metadata) (ℕ × ImageFault)
+images_of files = images_behind [] files
+
+-- The files' metadata is there where the answer is, and the fault is the one that is answered. Want of memory says nothing.
+abbrev pub GivesImages : Result (List Metadata) ImagesFault → Result (List Metadata) (ℕ × ImageFault) → Type 0
+GivesImages (Ok images) wanted = wanted ≡ Ok images
+GivesImages (Err (Image number fault)) wanted = wanted ≡ Err (number, fault)
+GivesImages (Err Memory) wanted = Unit {0}
