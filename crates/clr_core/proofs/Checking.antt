@@ -12,7 +12,7 @@ use Rattle.world_build.specs.Images.{GivesImages, file_checks, images_behind, im
 use Rattle.world_build.specs.declared.images.ImagesFault.{ImagesFault}
 use Rattle.world_build.specs.declared.images.ImagesFault.TheVariants.{Image}
 use Rattle.clr_core.specs.Command.{named_files}
-use Rattle.clr_core.specs.Ends.{Run, End, Done, Usage, ReadFault, BadImage, WriteFault, Memory, Happened, IsUntouched, StopsChecks, StopsFetch, Judged, the_file}
+use Rattle.clr_core.specs.Ends.{Run, End, Done, Usage, ReadFault, BadImage, WriteFault, Memory, Happened, IsUntouched, StopsChecks, StopsFetch, Judged}
 use Rattle.clr_core.specs.Fetched.{AreFiles}
 use Rattle.clr_core.specs.Names.{names_of, names_text, text_or_fault}
 

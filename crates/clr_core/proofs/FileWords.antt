@@ -1,5 +1,5 @@
 -- The words of files.
-use Rattle.std.proofs.Common.{◌≡◌, ℕ, zero, suc, ◌<◌, ◌≤◌, get_or, Bool, true, false, List, [], ◌∷◌, Option, None, Some, length, cond, String, Global, sym, ap, ◌∙◌, refl, arith, le-leb, leb-true}
+use Rattle.std.proofs.Common.{◌≡◌, ℕ, zero, suc, ◌<◌, ◌≤◌, get_or, Bool, true, false, List, [], ◌∷◌, None, Some, length, cond, String, Global, sym, ap, ◌∙◌, refl, arith, le-leb, leb-true}
 use Rattle.std.specs.Prelude.{◌&&◌, ◌==◌, nat_le, slice_get, string_bytes, codes}
 use Rattle.std.specs.List.{list_all}
 use Rattle.std.specs.Str.{bytes_eq}

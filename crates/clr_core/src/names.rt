@@ -139,11 +139,7 @@ fn push_file(
 /// What is written of files, of the word and the tables of each in order. Time and memory go with the text, the rows of
 /// TypeDef and NestedClass, and the names that are read.
 #[tactic(auto, unfolding(crate::specs::Names::names_text))]
-pub fn names_text(
-    alloc: Global,
-    files: &[String],
-    images: &[Tables<'_>],
-) -> Result<Bytes, Memory>
+pub fn names_text(alloc: Global, files: &[String], images: &[Tables<'_>]) -> Result<Bytes, Memory>
     requires count { length files.now ≡ length images.now }
     requires named { All AreTypesNamed images.now }
     ensures { IfOk result (λ text. text ≡ spec.names_text (texts_of files.now) images.now) }

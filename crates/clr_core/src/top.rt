@@ -21,11 +21,7 @@ use std::thread::Threads;
 use world_build::{ImagesFault, read_images};
 
 /// What is written of the files that were fetched. They are all checked first, in order.
-fn text_of<'a>(
-    alloc: Global,
-    names: &'a [String],
-    files: &[Vec<u8>],
-) -> Result<Bytes, Stop<'a>>
+fn text_of<'a>(alloc: Global, names: &'a [String], files: &[Vec<u8>]) -> Result<Bytes, Stop<'a>>
     requires count { length files.now ≡ length names.now }
     requires few { length names.now ≤ 16 }
     ensures text { IfOk result (λ text. names_of (texts_of names.now) (bytes_of_each files.now) ≡ Ok text) }

@@ -1,4 +1,4 @@
-use Rattle.std.proofs.Common.{◌≤◌, List, ℕ, sym, ap, ◌∙◌, subst, arith}
+use Rattle.std.proofs.Common.{List, ℕ, ◌∙◌, subst, arith}
 use Rattle.clr_base.specs.Files.{IsFile}
 use Rattle.clr_core.specs.Fetched.{Files}
 use Rattle.clr_core.proofs.Fetching.{fetched_more}

@@ -1,4 +1,4 @@
-use Rattle.std.proofs.Common.{◌≡◌, ◌∙◌, List, ℕ, sym, ap, refl, subst, arith, length}
+use Rattle.std.proofs.Common.{sym, ap, refl, subst, arith}
 use Rattle.std.proofs.lemmas.Result.{err_from_is_err_and}
 use Rattle.world_build.specs.Images.{bytes_of_each}
 use Rattle.clr_core.specs.Command.{texts_of}

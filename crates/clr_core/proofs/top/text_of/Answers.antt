@@ -1,11 +1,11 @@
-use Rattle.std.proofs.Common.{◌≡◌, ◌<◌, ◌∙◌, ℕ, ◌-◌, List, All, Some, Err, get_or, sym, ap, subst, arith, length}
+use Rattle.std.proofs.Common.{◌<◌, ◌∙◌, ℕ, ◌-◌, List, All, Some, Err, get_or, sym, ap, subst, arith, length}
 use Rattle.std.proofs.lemmas.List.{length-map}
 use Rattle.clr_base.specs.declared.image_fault.ImageFault.{ImageFault}
 use Rattle.cli_tables.specs.Metadata.{Metadata}
 use Rattle.world_build.specs.Images.{bytes_of_each}
 use Rattle.world_build.specs.Nesting.{AreTypesNamed}
 use Rattle.clr_core.specs.Command.{texts_of}
-use Rattle.clr_core.proofs.Checking.{all_named, given_image, number_within, files_fault, files_text}
+use Rattle.clr_core.proofs.Checking.{all_named, given_image, number_within, files_fault}
 use Rattle.clr_core.proofs.FileWords.{word_found}
 use Rattle.clr_core.proofs.top.text_of.Goals as goal
 
@@ -31,8 +31,7 @@ returns-in-Err-Image-clause-stopped c =
     let within = number_within (bytes_of_each c.args.files.now) number c.in-Err-Image.fault fails in
     let count = length-map c.args.files.now (λ file. file.items) in
     let same = c.requires.count in
-    let inside : number - 1 < length names = omega (arith, within.0, within.1) in
-    (
+    let inside : number - 1 < length names = omega (arith, within.0, within.1) in (
       number,
       files_fault (texts_of names) (bytes_of_each c.args.files.now) number c.in-Err-Image.fault fails
           ∙ ap (λ (f : ImageFault). Err (number, f)) (sym c.in-Err-Image.fault-is),
