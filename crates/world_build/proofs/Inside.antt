@@ -14,7 +14,8 @@ use Rattle.pe_image.specs.Metadata.{header_checks, range_checks, metadata_checks
 use Rattle.pe_image.specs.Sections.{covers, place_in, place_by, sections}
 use Rattle.cli_tables.specs.Metadata.{Metadata, read_checks, read_of}
 use Rattle.world_build.specs.Rows.{rows_checks}
-use Rattle.world_build.specs.Image.{metadata_bytes, metadata_in, image_checks, image_of}
+use Rattle.world_build.specs.SignatureChecks.{signature_checks}
+use Rattle.world_build.specs.Image.{metadata_bytes, metadata_in, content_checks, image_of}
 
 last_of_both : (a b : Bool) → (a && b) ≡ true → b ≡ true
 last_of_both true b e = e
@@ -57,13 +58,13 @@ found_bytes bytes p = slice_range bytes p.meta_start (p.meta_start + p.meta_len)
 -- A file whose headers fail is refused so.
 pub headers_fail : (bytes : List ℕ) (f : ImageFault) → metadata_of bytes ≡ Err f → image_of bytes ≡ Err f
 headers_fail bytes f e =
-    outcome_failed (metadata_checks bytes) (read_checks (metadata_bytes bytes) ++ rows_checks (metadata_in bytes)) (places bytes) (metadata_in bytes) f e
+    outcome_failed (metadata_checks bytes) (read_checks (metadata_bytes bytes) ++ content_checks (metadata_in bytes)) (places bytes) (metadata_in bytes) f e
 
 -- Where the headers pass, the checks behind them decide.
 headers_pass : (bytes : List ℕ) (p : Places) → metadata_of bytes ≡ Ok p
-    → image_of bytes ≡ outcome (read_checks (metadata_bytes bytes) ++ rows_checks (metadata_in bytes)) (metadata_in bytes)
+    → image_of bytes ≡ outcome (read_checks (metadata_bytes bytes) ++ content_checks (metadata_in bytes)) (metadata_in bytes)
 headers_pass bytes p e =
-    outcome_passed (metadata_checks bytes) (read_checks (metadata_bytes bytes) ++ rows_checks (metadata_in bytes)) (places bytes) p (metadata_in bytes) e
+    outcome_passed (metadata_checks bytes) (read_checks (metadata_bytes bytes) ++ content_checks (metadata_in bytes)) (places bytes) p (metadata_in bytes) e
 
 same_bytes : (bytes : List ℕ) (p : Places) → metadata_of bytes ≡ Ok p → found_bytes bytes p ≡ metadata_bytes bytes
 unfolding metadata_bytes
@@ -74,15 +75,15 @@ pub read_fails : (bytes : List ℕ) (p : Places) (f : ImageFault) → metadata_o
 read_fails bytes p f e here =
     let same : read_of (metadata_bytes bytes) ≡ Err f = ap read_of (sym (same_bytes bytes p e)) ∙ here in
     headers_pass bytes p e
-    ∙ outcome_failed (read_checks (metadata_bytes bytes)) (rows_checks (metadata_in bytes)) (metadata_in bytes) (metadata_in bytes) f same
+    ∙ outcome_failed (read_checks (metadata_bytes bytes)) (content_checks (metadata_in bytes)) (metadata_in bytes) (metadata_in bytes) f same
 
 read_passes : (bytes : List ℕ) (p : Places) (m : Metadata) → metadata_of bytes ≡ Ok p → read_of (found_bytes bytes p) ≡ Ok m
-    → (m ≡ metadata_in bytes) × (image_of bytes ≡ outcome (rows_checks (metadata_in bytes)) (metadata_in bytes))
+    → (m ≡ metadata_in bytes) × (image_of bytes ≡ outcome (content_checks (metadata_in bytes)) (metadata_in bytes))
 read_passes bytes p m e here =
     let same : read_of (metadata_bytes bytes) ≡ Ok m = ap read_of (sym (same_bytes bytes p e)) ∙ here in (
       outcome_value (read_checks (metadata_bytes bytes)) (metadata_in bytes) m same,
       headers_pass bytes p e
-          ∙ outcome_passed (read_checks (metadata_bytes bytes)) (rows_checks (metadata_in bytes)) (metadata_in bytes) m (metadata_in bytes) same,
+          ∙ outcome_passed (read_checks (metadata_bytes bytes)) (content_checks (metadata_in bytes)) (metadata_in bytes) m (metadata_in bytes) same,
     )
 
 -- And those of the rows.
@@ -91,15 +92,31 @@ pub rows_fail : (bytes : List ℕ) (p : Places) (m : Metadata) (f : ImageFault) 
 rows_fail bytes p m f e here rows =
     let both = read_passes bytes p m e here in
     let same : first_fault (rows_checks (metadata_in bytes)) ≡ Err f = ap (λ v. first_fault (rows_checks v)) (sym both.0) ∙ rows in
-    both.1 ∙ outcome_of_fault (rows_checks (metadata_in bytes)) (tt {0}) (metadata_in bytes) f same
+    both.1 ∙ outcome_failed (rows_checks (metadata_in bytes)) (signature_checks (metadata_in bytes)) (tt {0}) (metadata_in bytes) f same
+
+-- the rows pass, so the signatures decide
+rows_pass : (bytes : List ℕ) (p : Places) (m : Metadata) → metadata_of bytes ≡ Ok p → read_of (found_bytes bytes p) ≡ Ok m → first_fault (rows_checks m) ≡ Ok (tt {0})
+    → image_of bytes ≡ outcome (signature_checks (metadata_in bytes)) (metadata_in bytes)
+rows_pass bytes p m e here rows =
+    let both = read_passes bytes p m e here in
+    let same : first_fault (rows_checks (metadata_in bytes)) ≡ Ok (tt {0}) = ap (λ v. first_fault (rows_checks v)) (sym both.0) ∙ rows in
+    both.1 ∙ outcome_passed (rows_checks (metadata_in bytes)) (signature_checks (metadata_in bytes)) (tt {0}) (tt {0}) (metadata_in bytes) same
+
+-- And those of the signatures.
+pub signatures_fail : (bytes : List ℕ) (p : Places) (m : Metadata) (f : ImageFault) → metadata_of bytes ≡ Ok p → read_of (found_bytes bytes p) ≡ Ok m
+    → first_fault (rows_checks m) ≡ Ok (tt {0}) → first_fault (signature_checks m) ≡ Err f → image_of bytes ≡ Err f
+signatures_fail bytes p m f e here rows signatures =
+    let both = read_passes bytes p m e here in
+    let same : first_fault (signature_checks (metadata_in bytes)) ≡ Err f = ap (λ v. first_fault (signature_checks v)) (sym both.0) ∙ signatures in
+    rows_pass bytes p m e here rows ∙ outcome_of_fault (signature_checks (metadata_in bytes)) (tt {0}) (metadata_in bytes) f same
 
 -- Checks that pass give whatever value they are to give.
 pub passed_value : {X Y : Type 0} (checks : List Check) (x z : X) (y : Y) → outcome checks x ≡ Ok z → outcome checks y ≡ Ok y
 passed_value checks x z y e = ap (λ cs. outcome cs y) (sym (append-nil checks)) ∙ outcome_passed checks [] x z y e
 
 pub all_pass : (bytes : List ℕ) (p : Places) (m : Metadata) → metadata_of bytes ≡ Ok p → read_of (found_bytes bytes p) ≡ Ok m
-    → first_fault (rows_checks m) ≡ Ok (tt {0}) → image_of bytes ≡ Ok m
-all_pass bytes p m e here rows =
+    → first_fault (rows_checks m) ≡ Ok (tt {0}) → first_fault (signature_checks m) ≡ Ok (tt {0}) → image_of bytes ≡ Ok m
+all_pass bytes p m e here rows signatures =
     let both = read_passes bytes p m e here in
-    let same : first_fault (rows_checks (metadata_in bytes)) ≡ Ok (tt {0}) = ap (λ v. first_fault (rows_checks v)) (sym both.0) ∙ rows in
-    both.1 ∙ passed_value (rows_checks (metadata_in bytes)) (tt {0}) (tt {0}) (metadata_in bytes) same ∙ ap (λ (v : Metadata). Ok v) (sym both.0)
+    let same : first_fault (signature_checks (metadata_in bytes)) ≡ Ok (tt {0}) = ap (λ v. first_fault (signature_checks v)) (sym both.0) ∙ signatures in
+    rows_pass bytes p m e here rows ∙ passed_value (signature_checks (metadata_in bytes)) (tt {0}) (tt {0}) (metadata_in bytes) same ∙ ap (λ (v : Metadata). Ok v) (sym both.0)

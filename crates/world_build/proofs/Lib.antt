@@ -2,8 +2,11 @@ pub mod BodiesFit
 pub mod CoreFacts
 pub mod CoreFits
 pub mod CoreNames
+pub mod Counted
 pub mod DefsFit
 pub mod Enclosing
+pub mod FewEnough
+pub mod FewFiles
 pub mod FileRows
 pub mod FileSums
 pub mod Firsts
@@ -30,6 +33,7 @@ pub mod Runs
 pub mod RunsFit
 pub mod Settled
 pub mod SigFolds
+pub mod Signed
 pub mod Targets
 pub mod TreesFit
 pub mod WholeWorld

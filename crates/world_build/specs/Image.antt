@@ -5,6 +5,7 @@ use Rattle.clr_base.specs.Checks.{Check, outcome}
 use Rattle.pe_image.specs.Metadata.{metadata_checks, places}
 use Rattle.cli_tables.specs.Metadata.{Metadata, read_checks, contents}
 use Rattle.world_build.specs.Rows.{rows_checks}
+use Rattle.world_build.specs.SignatureChecks.{signature_checks}
 
 -- the bytes of the metadata, as the headers place it
 unfoldable pub metadata_bytes : List ℕ → List ℕ
@@ -14,9 +15,13 @@ metadata_bytes bytes = slice_range bytes (places bytes).meta_start ((places byte
 abbrev pub metadata_in : List ℕ → Metadata
 metadata_in bytes = contents (metadata_bytes bytes)
 
--- the checks of a file, in order: headers, metadata root, streams, tables, rows
+-- the checks of what tables hold: rows, signatures
+abbrev pub content_checks : Metadata → List Check
+content_checks m = rows_checks m ++ signature_checks m
+
+-- the checks of a file, in order: headers, metadata root, streams, tables, rows, signatures
 abbrev pub image_checks : List ℕ → List Check
-image_checks bytes = metadata_checks bytes ++ (read_checks (metadata_bytes bytes) ++ rows_checks (metadata_in bytes))
+image_checks bytes = metadata_checks bytes ++ (read_checks (metadata_bytes bytes) ++ content_checks (metadata_in bytes))
 
 -- the metadata of a file, or its first fault
 abbrev pub image_of : List ℕ → Result Metadata ImageFault

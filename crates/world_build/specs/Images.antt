@@ -2,19 +2,24 @@
 use Rattle.std.specs.Prelude.{◌≡◌, ℕ, ◌+◌, List, [], ◌∷◌, ◌++◌, map, length, Result, Ok, Err, Vec}
 use Rattle.std.specs.declared.alloc.Global.{Global}
 use Rattle.clr_base.specs.declared.image_fault.ImageFault.{ImageFault}
-use Rattle.clr_base.specs.Checks.{Check, first_fault}
+use Rattle.clr_base.specs.Checks.{Check, outcome, first_fault}
 use Rattle.cli_tables.specs.Metadata.{Metadata}
 use Rattle.world_build.specs.declared.images.ImagesFault.{ImagesFault}
 use Rattle.world_build.specs.declared.images.ImagesFault.TheVariants.{Image, Memory}
+use Rattle.world_build.specs.Counts.{totals_of, count_checks}
 use Rattle.world_build.specs.Image.{metadata_in, image_checks}
 
 -- the bytes of each file
 abbrev pub bytes_of_each : List (Vec ℕ Global) → List (List ℕ)
 bytes_of_each files = map (λ file. file.items) files
 
--- the checks of a file, in order, where the metadata of the files before it is given
-abbrev pub file_checks : List Metadata → List ℕ → List Check
-file_checks before bytes = image_checks bytes
+-- the checks of a file, in order, where the metadata of the files before it is given: its own, and that of all counts so far
+unfoldable pub file_checks : List Metadata → List ℕ → List Check
+file_checks before bytes = image_checks bytes ++ count_checks (totals_of (before ++ metadata_in bytes ∷ []))
+
+-- its metadata, or its first fault
+abbrev pub next_image_of : List Metadata → List ℕ → Result Metadata ImageFault
+next_image_of before bytes = outcome (file_checks before bytes) (metadata_in bytes)
 
 -- the fault of the file with a number, or what the files behind it give
 abbrev pub or_fault : ℕ → Result (Unit {0}) ImageFault → Result (List Metadata) (ℕ × ImageFault) → Result (List Metadata) (ℕ × ImageFault)

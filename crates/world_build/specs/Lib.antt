@@ -2,6 +2,7 @@ pub mod Bodies
 pub mod Cells
 pub mod CoreLibrary
 pub mod CoreTable
+pub mod Counts
 pub mod Definitions
 pub mod Image
 pub mod Images
@@ -16,6 +17,7 @@ pub mod Resolution
 pub mod RowIndexes
 pub mod Rows
 pub mod RowsBefore
+pub mod SignatureChecks
 pub mod Signatures
 pub mod Trees
 pub mod TypeNames

@@ -3,9 +3,11 @@ ghost use Rattle.std.specs.Prelude.{◌≡◌, ◌+◌, ◌≤◌, length, slice
 ghost use Rattle.world_build.specs.Image.{image_of};
 ghost use Rattle.world_build.specs.Refusals.{GivesOutcome};
 ghost use Rattle.world_build.specs.Rows.{ArePassed};
+ghost use Rattle.world_build.specs.SignatureChecks.{AreSigned};
 
 use crate::refusal::Refusal;
 use crate::rows::check_rows;
+use crate::signature_checks::check_signatures;
 use cli_tables::Tables;
 use pe_image::{Places, metadata};
 use std::alloc::Global;
@@ -20,13 +22,16 @@ fn metadata_part(bytes: &[u8], places: Places) -> &[u8]
     &bytes[start..end]
 }
 
-/// The metadata of a file that passes all its checks, or the first fault. Takes the memory that the checks of rows take.
+/// The metadata of a file that passes all its checks, or the first fault. Takes the memory that the checks of rows
+/// and of signatures take.
 pub fn read_image(alloc: Global, bytes: &[u8]) -> Result<Tables<'_>, Refusal>
     ensures exact { GivesOutcome result (image_of bytes.now) }
     ensures rows { IfOk result (λ m. ArePassed m) }
+    ensures signatures { IfOk result (λ m. AreSigned m) }
 {
     let places = metadata(bytes)?;
     let tables = Tables::read(metadata_part(bytes, places))?;
     check_rows(alloc, &tables)?;
+    check_signatures(alloc, &tables)?;
     Ok(tables)
 }

@@ -1,9 +1,14 @@
 //! Several files.
-ghost use Rattle.std.specs.Prelude.{◌≡◌, ◌<◌, ◌^◌, All, length, IfOk};
-ghost use Rattle.world_build.specs.Images.{GivesImages, bytes_of_each, images_of};
+ghost use Rattle.std.specs.Prelude.{◌≡◌, ◌<◌, ◌^◌, All, List, length, true, IfOk, OnOk};
+ghost use Rattle.cli_tables.specs.Metadata.{Metadata};
+ghost use Rattle.world_build.specs.Counts.{are_few, totals_of, with_file};
+ghost use Rattle.world_build.specs.Images.{GivesImages, bytes_of_each, images_of, next_image_of};
+ghost use Rattle.world_build.specs.Refusals.{GivesOutcome};
 ghost use Rattle.world_build.specs.Rows.{ArePassed};
+ghost use Rattle.world_build.specs.SignatureChecks.{AreSigned};
 ghost use Rattle.world_build.specs.World.{tables_in};
 
+use crate::counts::{Totals, count_file};
 use crate::image::read_image;
 use crate::refusal::Refusal;
 use cli_tables::Tables;
@@ -29,6 +34,25 @@ impl From<AllocError> for ImagesFault {
     }
 }
 
+/// The metadata of a file that passes all its checks, by the counts of the files before it, or its first fault. Adds its own
+/// counts.
+fn next_image<'a>(
+    alloc: Global,
+    totals: &mut Totals,
+    bytes: &'a [u8],
+) -> Result<Tables<'a>, Refusal>
+    requires few { are_few totals.old ≡ true }
+    ensures exact { (before : List Metadata) → totals.old ≡ totals_of before → GivesOutcome result (next_image_of before bytes.now) }
+    ensures totals { IfOk result (λ image. totals.new ≡ with_file totals.old image) }
+    ensures few { OnOk result (are_few totals.new ≡ true) }
+    ensures rows { IfOk result (λ image. ArePassed image) }
+    ensures signatures { IfOk result (λ image. AreSigned image) }
+{
+    let image = read_image(alloc, bytes)?;
+    *totals = count_file(alloc, *totals, &image)?;
+    Ok(image)
+}
+
 /// The metadata of files that all pass their checks, or the first fault of the first of them that has one. Takes the memory
 /// and the time that the checks of each take.
 pub fn read_images(alloc: Global, files: &[Vec<u8>]) -> Result<Items<Tables<'_>>, ImagesFault>
@@ -36,11 +60,15 @@ pub fn read_images(alloc: Global, files: &[Vec<u8>]) -> Result<Items<Tables<'_>>
     ensures exact { GivesImages result (images_of (bytes_of_each files.now)) }
     ensures all { IfOk result (λ images. images ≡ tables_in (bytes_of_each files.now)) }
     ensures rows { IfOk result (All ArePassed) }
+    ensures signatures { IfOk result (All AreSigned) }
+    // tokens can number all that the files give
+    ensures few { IfOk result (λ images. are_few (totals_of images) ≡ true) }
 {
     let mut images = Items::new(alloc);
+    let mut totals = Totals::of_core();
     for k in 0..files.len() {
-        match read_image(alloc, files[k].as_slice()) {
-            Ok(tables) => images.push(tables)?,
+        match next_image(alloc, &mut totals, files[k].as_slice()) {
+            Ok(image) => images.push(image)?,
             Err(Refusal::Fault(fault)) => return Err(ImagesFault::Image(k as u32 + 1, fault)),
             Err(Refusal::Memory) => return Err(ImagesFault::Memory),
         }

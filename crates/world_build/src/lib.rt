@@ -6,6 +6,7 @@ mod cells;
 mod core_parts;
 mod core_table;
 mod core_type;
+mod counts;
 mod def_numbers;
 mod definitions;
 mod file_names;
@@ -26,6 +27,7 @@ mod resolution;
 mod row_index;
 mod row_rules;
 mod rows;
+mod signature_checks;
 mod text_numbers;
 mod trees;
 mod type_rows;
@@ -39,6 +41,7 @@ pub use core_table::{
     MemberName, MethodKind, NAME_COUNT, Params, SigType, core_name, def_row, method_rows,
 };
 pub use core_type::CoreType;
+pub use counts::Totals;
 pub use file_names::FileNames;
 pub use image::read_image;
 pub use images::{ImagesFault, read_images};
@@ -49,6 +52,7 @@ pub use ref_names::name_of_ref;
 pub use refusal::Refusal;
 pub use resolution::DefPlace;
 pub use rows::TYPE_DEF;
+pub use signature_checks::{SIG_COLUMNS, SigColumn, SigKind, check_signatures};
 pub use type_rows::{Target, TypeRows};
 pub use world_names::{WorldNames, name_files};
 

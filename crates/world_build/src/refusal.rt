@@ -30,3 +30,13 @@ impl From<AllocError> for Refusal {
         Refusal::Memory
     }
 }
+
+impl From<Memory> for Refusal {
+    ghost use Rattle.world_build.specs.declared.refusal.Refusal.TheVariants as refusal;
+
+    ghost from_gives = { λ _ e. e ≡ refusal.Memory };
+
+    fn from(_error: Memory) -> Refusal {
+        Refusal::Memory
+    }
+}

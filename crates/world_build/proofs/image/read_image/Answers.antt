@@ -2,7 +2,7 @@ use Rattle.std.proofs.Common.{sym, ◌∙◌, ap}
 use Rattle.std.proofs.lemmas.Result.{err_from_is_err_and}
 use Rattle.cli_tables.specs.Metadata.{read_of}
 use Rattle.world_build.proofs.Giving.{gives_fault, gives_on}
-use Rattle.world_build.proofs.Inside.{headers_fail, is_inside, read_fails, rows_fail, all_pass}
+use Rattle.world_build.proofs.Inside.{headers_fail, is_inside, read_fails, rows_fail, signatures_fail, all_pass}
 use Rattle.world_build.proofs.image.read_image.Goals as goal
 
 pub returns-in_err-places-clause-exact : goal.returns-in_err-places-clause-exact
@@ -25,6 +25,12 @@ returns-in_err-check_rows-clause-exact c =
     gives_on _ p.0 _ _ _ p.1 p.2 c.in_err-check_rows.ensures
     (λ f fails. rows_fail c.args.bytes.now c.in_ok-places.places c.in_ok-tables.tables f (sym c.in_ok-places.ensures) (ap read_of (sym c.metadata_part.ensures) ∙ sym c.in_ok-tables.ensures) fails)
 
+pub returns-in_err-check_signatures-clause-exact : goal.returns-in_err-check_signatures-clause-exact
+returns-in_err-check_signatures-clause-exact c =
+    let p = err_from_is_err_and c.from_residual-in_err-check_signatures.result c.from_residual-in_err-check_signatures.ensures.1 in
+    gives_on _ p.0 _ _ _ p.1 p.2 c.in_err-check_signatures.ensures
+    (λ f fails. signatures_fail c.args.bytes.now c.in_ok-places.places c.in_ok-tables.tables f (sym c.in_ok-places.ensures) (ap read_of (sym c.metadata_part.ensures) ∙ sym c.in_ok-tables.ensures) c.in_ok-check_rows.ensures fails)
+
 pub returns-clause-exact : goal.returns-clause-exact
 returns-clause-exact c =
-    all_pass c.args.bytes.now c.in_ok-places.places c.in_ok-tables.tables (sym c.in_ok-places.ensures) (ap read_of (sym c.metadata_part.ensures) ∙ sym c.in_ok-tables.ensures) c.in_ok-check_rows.ensures
+    all_pass c.args.bytes.now c.in_ok-places.places c.in_ok-tables.tables (sym c.in_ok-places.ensures) (ap read_of (sym c.metadata_part.ensures) ∙ sym c.in_ok-tables.ensures) c.in_ok-check_rows.ensures c.in_ok-check_signatures.ensures

@@ -1,6 +1,8 @@
-use Rattle.std.proofs.Common.{◌≡◌, All, length, take, drop}
+use Rattle.std.proofs.Common.{◌≡◌, All, length, true, take, drop}
+use Rattle.world_build.specs.Counts.{are_few, totals_of}
 use Rattle.world_build.specs.Images.{bytes_of_each, images_of, images_behind}
 use Rattle.world_build.specs.Rows.{ArePassed}
+use Rattle.world_build.specs.SignatureChecks.{AreSigned}
 use Rattle.world_build.specs.World.{tables_in}
 use Rattle.world_build.proofs.images.read_images.Given as goal
 
@@ -9,5 +11,8 @@ invariant-loop-k l = record {
   count : length l.images ≡ l.k;
   all : l.images ≡ tables_in (bytes_of_each (take l.k l.files));
   behind : images_of (bytes_of_each l.files) ≡ images_behind l.images (bytes_of_each (drop l.k l.files));
+  counted : l.totals ≡ totals_of l.images;
+  few : are_few l.totals ≡ true;
   rows : All ArePassed l.images;
+  signatures : All AreSigned l.images;
 }

@@ -1,0 +1,75 @@
+-- Sums of counts that stop where they are too many, and the local variables of one row more.
+use Rattle.std.proofs.Common.{◌≡◌, ℕ, zero, suc, ◌+◌, ◌<◌, ◌≤◌, ◌⊎◌, inl, inr, List, [], ◌∷◌, ◌++◌, length, min, take, refl, sym, ap, ap₂, ◌∙◌, arith, get_or}
+use Rattle.std.specs.BTreeMap.{BTreeMap}
+use Rattle.std.specs.List.{range_with_len, sum_by}
+use Rattle.std.proofs.Math.Nat.{min-eq_left, min-eq_right, min-le_right}
+use Rattle.std.proofs.lemmas.List.{take_more}
+use Rattle.std.proofs.lemmas.List.FromFn.{get_or-range_with_len, length-range_with_len}
+use Rattle.std.proofs.lemmas.List.Sums.{sum_by-append, sum_by-cons}
+use Rattle.cli_tables.specs.Metadata.{Metadata}
+use Rattle.world_build.specs.Cells.{rows, rows_of, at, blob}
+use Rattle.world_build.specs.Counts.{too_many, capped, locals_by, local_count, all_locals}
+use Rattle.world_build.specs.Signatures.{listed, locals_in, locals_before}
+
+-- ---- counts that stop
+
+pub capped_few : (n : ℕ) → capped n ≤ too_many
+capped_few n = min-le_right n too_many
+
+pub stops : (n : ℕ) → too_many ≤ n → capped n ≡ too_many
+stops n many = min-eq_right many
+
+pub below : (n : ℕ) → n ≤ too_many → capped n ≡ n
+below n few = min-eq_left few
+
+pub one_of : (n : ℕ) → (n ≤ too_many) ⊎ (too_many ≤ n)
+one_of n = grind arith
+
+pub capped_sum : (a b x y : ℕ) → a ≡ capped x → b ≡ capped y → capped (a + b) ≡ capped (x + y)
+capped_sum a b x y a_is b_is =
+    elim (one_of x) [
+      | inl x_few ↦ elim (one_of y) [
+        | inl y_few ↦ ap₂ (λ n k. capped (n + k)) (a_is ∙ below x x_few) (b_is ∙ below y y_few)
+        | inr y_many ↦ stops (a + b) (omega (arith, b_is, stops y y_many)) ∙ sym (stops (x + y) (omega arith))
+      ]
+      | inr x_many ↦ stops (a + b) (omega (arith, a_is, stops x x_many)) ∙ sym (stops (x + y) (omega arith))
+    ]
+
+-- ---- local variables
+
+pub no_locals : (m : Metadata) → 0 ≡ capped (locals_before m 0)
+unfolding locals_before
+no_locals m = refl
+
+one_row : (m : Metadata) (n : ℕ) → n < rows m 0x11 → take (n + 1) (rows_of m 0x11) ≡ take n (rows_of m 0x11) ++ (n + 1) ∷ []
+one_row m n within =
+    let last : 1 + n ≡ n + 1 = omega arith in
+    take_more (rows_of m 0x11) n 0 (omega (arith, length-range_with_len 1 (rows m 0x11)))
+    ∙ ap (λ r. take n (rows_of m 0x11) ++ r ∷ []) (get_or-range_with_len 1 (rows m 0x11) n 0 within ∙ last)
+
+locals_more : (m : Metadata) (n : ℕ) → n < rows m 0x11 → locals_before m (n + 1) ≡ locals_before m n + length (listed (locals_in m (n + 1)))
+unfolding locals_before
+locals_more m n within =
+    let f = λ (row : ℕ). length (listed (locals_in m row)) in
+    let sum = sum_by-append f (take n (rows_of m 0x11)) ((n + 1) ∷ []) in
+    let last = sum_by-cons f (n + 1) [] in
+    ap (sum_by f) (one_row m n within) ∙ omega (arith, sum, last)
+
+local_count_of : (m : Metadata) (row index : ℕ) → index ≡ at m 0x11 row 0 → local_count m index ≡ capped (length (listed (locals_in m row)))
+unfolding local_count locals_by locals_in blob
+local_count_of m row index is = ap (λ i. capped (length (listed (locals_by m i)))) is
+
+pub more_locals : (m : Metadata) (n total index count sum : ℕ) → n < rows m 0x11 → total ≡ capped (locals_before m n) → index ≡ at m 0x11 (n + 1) 0
+    → count ≡ local_count m index → sum ≡ capped (total + count) → sum ≡ capped (locals_before m (n + 1))
+more_locals m n total index count sum within before index_is count_is sum_is =
+    sum_is
+    ∙ capped_sum total count (locals_before m n) (length (listed (locals_in m (n + 1)))) before (count_is ∙ local_count_of m (n + 1) index index_is)
+    ∙ ap capped (sym (locals_more m n within))
+
+pub count_few : (m : Metadata) (index : ℕ) → local_count m index ≤ too_many
+unfolding local_count
+count_few m index = capped_few (length (listed (locals_by m index)))
+
+pub these_locals : (m : Metadata) (n total : ℕ) → n ≡ rows m 0x11 → total ≡ capped (locals_before m n) → total ≡ all_locals m
+unfolding all_locals
+these_locals m n total all is = is ∙ ap (λ k. capped (locals_before m k)) all

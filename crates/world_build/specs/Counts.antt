@@ -1,0 +1,61 @@
+-- How many definitions, methods, fields and signatures files may give a world, so that tokens can number them.
+use Rattle.std.specs.Prelude.{ℕ, ◌+◌, ◌&&◌, List, [], ◌∷◌, length, min, Bool, nat_le, Option, None, Some, if◌then◌else◌}
+use Rattle.std.specs.List.{sum_by}
+use Rattle.clr_base.specs.declared.image_fault.FaultKind.TheVariants.{TooMany}
+use Rattle.clr_base.specs.Checks.{Check, check}
+use Rattle.cli_sigs.specs.declared.signature.SigTy.{SigTy}
+use Rattle.cli_sigs.specs.Signatures.{placed, locals_at}
+use Rattle.cli_tables.specs.Metadata.{Metadata}
+use Rattle.type_tree.specs.Whole.{most}
+use Rattle.world_build.specs.declared.counts.Totals.{Totals}
+use Rattle.world_build.specs.CoreTable.{core_defs, core_methods}
+use Rattle.world_build.specs.Cells.{rows}
+use Rattle.world_build.specs.References.{begins_with}
+use Rattle.world_build.specs.Rows.{token}
+use Rattle.world_build.specs.SignatureChecks.{blob_by}
+use Rattle.world_build.specs.Signatures.{listed, row_sigs, locals_before, sigs_in}
+use Rattle.world_build.specs.Trees.{row_counts, value_or}
+
+-- those of the core library and of some files; of signatures the core has three
+unfoldable pub totals_of : List Metadata → Totals
+totals_of files = record {
+  defs = core_defs + sum_by (λ m. rows m 0x02) files;
+  methods = core_methods + sum_by (λ m. rows m 0x06) files;
+  fields = sum_by (λ m. rows m 0x04) files;
+  sigs = 3 + sum_by sigs_in files;
+}
+
+unfoldable pub are_few : Totals → Bool
+are_few t = nat_le t.defs most && nat_le t.methods most && nat_le t.fields most && nat_le t.sigs most
+
+-- the check of a file's counts, given with the counts of the files before it and its own
+unfoldable pub count_checks : Totals → List Check
+count_checks t = check (are_few t) TooMany (token 0x00 1) ∷ []
+
+-- those of one file more
+unfoldable pub with_file : Totals → Metadata → Totals
+with_file t m = record {
+  defs = t.defs + rows m 0x02;
+  methods = t.methods + rows m 0x06;
+  fields = t.fields + rows m 0x04;
+  sigs = t.sigs + sigs_in m;
+}
+
+-- ---- counts that stop where they are too many
+
+abbrev pub too_many : ℕ
+too_many = most + 1
+
+abbrev pub capped : ℕ → ℕ
+capped n = min n too_many
+
+-- how many local variables the blob at an index lists
+unfoldable pub locals_by : Metadata → ℕ → Option (List SigTy)
+locals_by m index =
+    if begins_with 0x07 (blob_by m index) then Some (value_or [] (placed (blob_by m index) (locals_at (row_counts m) (blob_by m index)))) else None
+
+unfoldable pub local_count : Metadata → ℕ → ℕ
+local_count m index = capped (length (listed (locals_by m index)))
+
+unfoldable pub all_locals : Metadata → ℕ
+all_locals m = capped (locals_before m (rows m 0x11))

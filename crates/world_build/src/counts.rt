@@ -1,0 +1,172 @@
+//! How many definitions, methods, fields and signatures files give a world, and whether tokens can number them.
+ghost use Rattle.std.specs.Prelude.{◌≡◌, ◌≤◌, [], true, IfOk, OnOk};
+ghost use Rattle.clr_base.specs.Checks.{outcome};
+ghost use Rattle.world_build.specs.Counts as spec;
+ghost use Rattle.world_build.specs.Refusals.{GivesOutcome};
+ghost use Rattle.world_build.specs.SignatureChecks.{AreNotes};
+ghost use Rattle.world_build.specs.Signatures as sigs;
+
+use crate::refusal::Refusal;
+use crate::rows::{METHOD_DEF, TYPE_DEF, token};
+use crate::signature_checks::{LOCALS_CODE, begins_with, blob_by};
+use crate::trees::{row_counts, value_or};
+use cli_sigs::{SigTyList, read_locals};
+use cli_tables::Tables;
+use clr_base::{FaultKind, Memory, check};
+use sqlite_items::Items;
+use std::alloc::Global;
+use std::collections::BTreeMap;
+
+/// The most that tokens can number (ECMA-335 III.1.9: a token has 24 bits for a row).
+const MOST: u32 = 16_777_215;
+
+/// The table TypeRef (II.22.38).
+const TYPE_REF: u8 = 0x01;
+
+/// The table Field (II.22.15).
+const FIELD: u8 = 0x04;
+
+/// The table MemberRef (II.22.25).
+const MEMBER_REF: u8 = 0x0a;
+
+/// The table StandAloneSig (II.22.36).
+const STAND_ALONE_SIG: u8 = 0x11;
+
+/// The table TypeSpec (II.22.39).
+const TYPE_SPEC: u8 = 0x1b;
+
+/// The table MethodSpec (II.22.29).
+const METHOD_SPEC: u8 = 0x2b;
+
+/// How many definitions, methods, fields and signatures there are.
+#[derive(Clone, Copy, Debug)]
+pub struct Totals {
+    pub defs: u32,
+    pub methods: u32,
+    pub fields: u32,
+    pub sigs: u32,
+}
+
+/// The local variables that the blob at an index lists (II.23.2.6), none where it doesn't begin with their code.
+#[tactic(auto, unfolding(crate::specs::Counts::locals_by))]
+fn locals_by(alloc: Global, tables: &Tables<'_>, index: u32) -> Result<SigTyList, Memory>
+    ensures { IfOk result (λ locals. locals ≡ sigs.listed (spec.locals_by tables.now index)) }
+{
+    let blob = blob_by(tables, index);
+    if begins_with(LOCALS_CODE, blob) {
+        value_or(
+            read_locals(alloc, blob, &row_counts(tables)),
+            Items::new(alloc),
+        )
+    } else {
+        Ok(Items::new(alloc))
+    }
+}
+
+/// How many they are, up to one too many. They are counted where that isn't noted yet.
+#[tactic(auto, unfolding(crate::specs::Counts::local_count))]
+fn local_count(
+    alloc: Global,
+    tables: &Tables<'_>,
+    noted: &mut BTreeMap<u32, u32>,
+    index: u32,
+) -> Result<u32, Memory>
+    requires { AreNotes (spec.local_count tables.now) noted.old }
+    ensures exact { IfOk result (λ count. count ≡ spec.local_count tables.now index) }
+    ensures noted { OnOk result (AreNotes (spec.local_count tables.now) noted.new) }
+{
+    if let Some(count) = noted.get(&index) {
+        return Ok(*count);
+    }
+    let len = locals_by(alloc, tables, index)?.len();
+    let count = len.min(MOST as usize + 1) as u32;
+    noted.insert(index, count)?;
+    Ok(count)
+}
+
+/// How many local variables the rows of StandAloneSig list, up to one too many.
+#[tactic(auto, unfolding(cli_tables::specs::Schema::columns))]
+fn all_locals(alloc: Global, tables: &Tables<'_>) -> Result<u32, Memory>
+    ensures { IfOk result (λ count. count ≡ spec.all_locals tables.now) }
+{
+    let mut noted = BTreeMap::new(alloc);
+    let mut total = 0;
+    for row in 0..tables.row_count(STAND_ALONE_SIG) {
+        let index = tables.cell(STAND_ALONE_SIG, row + 1, 0);
+        let count = local_count(alloc, tables, &mut noted, index)?;
+        total = (total + count).min(MOST + 1);
+    }
+    Ok(total)
+}
+
+/// How many signatures the rows of a file have, before the local variables: two a type, one a member.
+#[tactic(auto, unfolding(crate::specs::Signatures::row_sigs))]
+fn row_sigs(tables: &Tables<'_>) -> u32
+    ensures exact { result ≡ sigs.row_sigs tables.now }
+    ensures few { result ≤ 167772150 }
+{
+    let types = tables.row_count(TYPE_DEF)
+        + tables.row_count(TYPE_REF)
+        + tables.row_count(TYPE_SPEC);
+    let members = tables.row_count(FIELD)
+        + tables.row_count(METHOD_DEF)
+        + tables.row_count(MEMBER_REF)
+        + tables.row_count(METHOD_SPEC);
+    2 * types + members
+}
+
+impl Totals {
+    /// Those of the core library, which has no fields.
+    #[tactic(auto, unfolding(crate::specs::Counts::totals_of, crate::specs::Counts::are_few))]
+    pub(crate) fn of_core() -> Totals
+        ensures exact { result ≡ spec.totals_of [] }
+        ensures few { spec.are_few result ≡ true }
+    {
+        Totals {
+            defs: 36,
+            methods: 98,
+            fields: 0,
+            sigs: 3,
+        }
+    }
+
+    /// Whether tokens can number them.
+    #[tactic(auto, unfolding(crate::specs::Counts::are_few))]
+    fn are_few(self) -> bool
+        ensures { result ≡ spec.are_few self }
+    {
+        self.defs <= MOST && self.methods <= MOST && self.fields <= MOST && self.sigs <= MOST
+    }
+
+    /// Those with one file more; where they are too many, the signatures may be fewer, but are still too many.
+    fn with_file(self, alloc: Global, tables: &Tables<'_>) -> Result<Totals, Memory>
+        requires { spec.are_few self ≡ true }
+        ensures few { IfOk result (λ t. spec.are_few t ≡ spec.are_few (spec.with_file self tables.now)) }
+        ensures exact { IfOk result (λ t. spec.are_few t ≡ true → t ≡ spec.with_file self tables.now) }
+    {
+        let locals = all_locals(alloc, tables)?;
+        Ok(Totals {
+            defs: self.defs + tables.row_count(TYPE_DEF),
+            methods: self.methods + tables.row_count(METHOD_DEF),
+            fields: self.fields + tables.row_count(FIELD),
+            sigs: self.sigs + row_sigs(tables) + locals,
+        })
+    }
+}
+
+/// The check of a file's counts, by those of the core library and of the files before it; and the counts with its own.
+/// Takes memory for a note of each list of local variables, and time in the rows of StandAloneSig and the length of these
+/// lists.
+pub(crate) fn count_file(
+    alloc: Global,
+    totals: Totals,
+    tables: &Tables<'_>,
+) -> Result<Totals, Refusal>
+    requires { spec.are_few totals ≡ true }
+    ensures exact { GivesOutcome result (outcome (spec.count_checks (spec.with_file totals tables.now)) (spec.with_file totals tables.now)) }
+    ensures few { IfOk result (λ t. spec.are_few t ≡ true) }
+{
+    let totals = totals.with_file(alloc, tables)?;
+    check(totals.are_few(), FaultKind::TooMany, token(0x00, 1))?;
+    Ok(totals)
+}
