@@ -28,7 +28,7 @@ abbrev pub AreFiles : Files → List (List ℕ) → List (List ℕ) → Type 0
 AreFiles None names bytes = length bytes ≡ length names
 AreFiles (Some files) names bytes = all_held files names ≡ Some bytes
 
--- A file wasn't read: those before it were fetched, and the shelf failed.
+-- A file wasn't read, the one at a place among the names, from 0: those before it were fetched, and the shelf failed.
 pub record IsUnread (shelf : Shelved) (names : List (List ℕ)) (file : List ℕ) : Type 0 where
   pub place : ℕ
   pub is : slice_get names place ≡ Some file
