@@ -53,8 +53,9 @@ fn sixteen_files_and_one_more(rt: HostRuntime) -> Result<(), Fail> {
 #[test]
 fn the_first_file_that_is_refused(rt: HostRuntime) -> Result<(), Fail> {
     let whole = image(rt.alloc(), &SMALLEST)?;
-    assert!(rt; 787 <= whole.len());
-    let cut = &whole[..787];
+    let mut shorter = image(rt.alloc(), &SMALLEST)?;
+    shorter.truncate(787);
+    let cut = shorter.as_slice();
     let none: &[u8] = b"";
     for (first, second, line) in [
         (
