@@ -1,20 +1,21 @@
 -- What follows from how a run ended.
-use Rattle.std.proofs.Common.{◌≡◌, ◌≢◌, ◌↔◌, ◌⊎◌, inl, inr, ℕ, ◌≤◌, true, false, List, [], Option, None, Some, Result, Ok, Err, refl, sym, ap, ◌∙◌, subst, arith, IsSome, unwrap_or}
+use Rattle.std.proofs.Common.{◌≡◌, ◌≢◌, ◌↔◌, ◌⊎◌, inl, inr, ℕ, ◌+◌, ◌-◌, ◌≤◌, true, false, List, [], Option, None, Some, Result, Ok, Err, refl, sym, ap, ◌∙◌, subst, arith, IsSome, unwrap_or}
+use Rattle.std.specs.Prelude.{slice_get}
 use Rattle.std.specs.Option.{option_and_then}
 use Rattle.clr_base.specs.Causes.{Rose}
 use Rattle.clr_base.specs.Content.{then_bytes}
-use Rattle.clr_base.specs.Files.{IsFile}
 use Rattle.clr_base.specs.declared.image_fault.ImageFault.{ImageFault}
 use Rattle.clr_base.specs.declared.image_fault.FaultKind.TheVariants.{NotPe}
-use Rattle.clr_core.specs.Command.{named_file}
-use Rattle.clr_core.specs.Lines.{refused_line}
+use Rattle.clr_core.specs.Command.{named_files}
+use Rattle.clr_core.specs.Fetched.{Files, AreFiles, IsUnread, all_held}
+use Rattle.clr_core.specs.Lines.{unread_line, refused_line}
 use Rattle.clr_core.specs.Names.{names_of}
-use Rattle.clr_core.specs.Ends.{Files, Written, Run, End, Done, Usage, ReadFault, BadImage, WriteFault, Memory, Judged, Happened, Says, Tells, EndsWith, status_of, the_file, told_bytes, told_names, line_of}
+use Rattle.clr_core.specs.Ends.{Written, Run, End, Done, Usage, ReadFault, BadImage, WriteFault, Memory, Judged, Unread, Happened, Says, Tells, EndsWith, status_of, the_file, the_files, told_bytes, told_names, line_of}
 use Rattle.clr_core.specs.declared.status.Status.{Status}
 use Rattle.clr_core.specs.declared.status.Status.TheVariants as status
 
 -- Usage exactly where the words are no command
-no_command : (run : Run) (end : End) (s : Status) → status_of end ≡ s → Happened run end → s ≡ status.Usage → named_file run.words ≡ None
+no_command : (run : Run) (end : End) (s : Status) → status_of end ≡ s → Happened run end → s ≡ status.Usage → named_files run.words ≡ None
 no_command run Done s is h e = cc
 no_command run Usage s is h e = h.0
 no_command run (ReadFault file) s is h e = cc
@@ -22,22 +23,22 @@ no_command run (BadImage file fault) s is h e = cc
 no_command run WriteFault s is h e = cc
 no_command run Memory s is h e = cc
 
-is_usage : (run : Run) (end : End) (s : Status) → status_of end ≡ s → Happened run end → named_file run.words ≡ None → s ≡ status.Usage
-is_usage run Done s is (text, reports, e) none = cc (reports.judged.named)
+is_usage : (run : Run) (end : End) (s : Status) → status_of end ≡ s → Happened run end → named_files run.words ≡ None → s ≡ status.Usage
+is_usage run Done s is (text, judged, e) none = cc (judged.named)
 is_usage run Usage s is h none = sym is
-is_usage run (ReadFault file) s is h none = cc (h.0)
-is_usage run (BadImage file fault) s is h none = cc (h.0.named)
-is_usage run WriteFault s is (text, reports, prefix, rose) none = cc (reports.judged.named)
-is_usage run Memory s is h none = let lost : false ≡ true = subst (λ (o : Option (List ℕ)). IsSome o) none h.0 in cc
+is_usage run (ReadFault file) s is h none = cc (h.0.named)
+is_usage run (BadImage file fault) s is h none = cc (h.0.judged.named)
+is_usage run WriteFault s is (text, judged, prefix, rose) none = cc (judged.named)
+is_usage run Memory s is h none = let lost : false ≡ true = subst (λ (o : Option (List (List ℕ))). IsSome o) none h.0 in cc
 
-pub usage : (run : Run) (err : Written) (s : Status) → EndsWith run err s → (s ≡ status.Usage) ↔ (named_file run.words ≡ None)
+pub usage : (run : Run) (err : Written) (s : Status) → EndsWith run err s → (s ≡ status.Usage) ↔ (named_files run.words ≡ None)
 usage run err s ends = (no_command run ends.end s ends.is ends.happened, is_usage run ends.end s ends.is ends.happened)
 
 -- A read fault has its cause.
 read_by : (run : Run) (end : End) (s : Status) → status_of end ≡ s → Happened run end → s ≡ status.ReadFault → Rose run.shelf.faults_before run.shelf.faults_now
 read_by run Done s is h e = cc
 read_by run Usage s is h e = cc
-read_by run (ReadFault file) s is h e = h.1
+read_by run (ReadFault file) s is h e = h.0.fails.cause
 read_by run (BadImage file fault) s is h e = cc
 read_by run WriteFault s is h e = cc
 read_by run Memory s is h e = cc
@@ -51,7 +52,7 @@ write_by run Done s is h e = cc
 write_by run Usage s is h e = cc
 write_by run (ReadFault file) s is h e = cc
 write_by run (BadImage file fault) s is h e = cc
-write_by run WriteFault s is (text, reports, prefix, rose) e = rose
+write_by run WriteFault s is (text, judged, prefix, rose) e = rose
 write_by run Memory s is h e = cc
 
 pub write_fault : (run : Run) (err : Written) (s : Status) → EndsWith run err s → s ≡ status.WriteFault → Rose run.out.faults_before run.out.faults_now
@@ -61,7 +62,7 @@ write_fault run err s ends = write_by run ends.end s ends.is ends.happened
 out_by : (run : Run) (end : End) (s : Status) → status_of end ≡ s → Happened run end → s ≢ status.Done → s ≢ status.WriteFault → run.out.now ≡ run.out.before
 out_by run Done s is h not_done not_write = absurd (not_done (sym is))
 out_by run Usage s is h not_done not_write = h.1.content
-out_by run (ReadFault file) s is h not_done not_write = h.2.content
+out_by run (ReadFault file) s is h not_done not_write = h.1.content
 out_by run (BadImage file fault) s is h not_done not_write = h.1.content
 out_by run WriteFault s is h not_done not_write = absurd (not_write (sym is))
 out_by run Memory s is h not_done not_write = h.1.content
@@ -73,23 +74,49 @@ out_untouched run err s ends = out_by run ends.end s ends.is ends.happened
 any_fault : ImageFault
 any_fault = record { kind = NotPe; place = 0 }
 
-file_of : (words : List (List ℕ)) (file : List ℕ) → named_file words ≡ Some file → file ≡ the_file words
-file_of words file named = sym (ap (λ o. unwrap_or o []) named)
+files_of : (words files : List (List ℕ)) → named_files words ≡ Some files → files ≡ the_files words
+files_of words files named = sym (ap (λ o. unwrap_or o []) named)
+
+-- the number of a file that wasn't read
+unread_word : (run : Run) (file : List ℕ) → (unread : Unread run file) → file ≡ the_file run.words (unread.fails.place + 1)
+unread_word run file unread =
+    let at : unread.fails.place ≡ unread.fails.place + 1 - 1 = omega arith in
+    sym (ap (λ o. unwrap_or o []) unread.fails.is)
+    ∙ ap (λ files. unwrap_or (slice_get files unread.fails.place) []) (files_of run.words unread.files unread.named)
+    ∙ ap (λ (k : ℕ). unwrap_or (slice_get (the_files run.words) k) []) at
 
 said : (err : Written) (s t : Status) (file file' : List ℕ) (fault : ImageFault) → t ≡ s → file ≡ file' → Says err (line_of t file fault) → Says err (line_of s file' fault)
 said err s t file file' fault is same says = subst (λ v. Says err (line_of v file' fault)) is (subst (λ v. Says err (line_of t v fault)) same says)
 
 line_by : (run : Run) (err : Written) (end : End) (s : Status) → status_of end ≡ s → Happened run end → Tells err end → s ≢ status.Done
-    → (fault : ImageFault) × Says err (line_of s (the_file run.words) fault)
+    → (number : ℕ) × (fault : ImageFault) × Says err (line_of s (the_file run.words number) fault)
 line_by run err Done s is h tells not_done = absurd (not_done (sym is))
-line_by run err Usage s is h tells not_done = (any_fault, said err s status.Usage (the_file run.words) (the_file run.words) any_fault is refl tells)
-line_by run err (ReadFault file) s is h tells not_done = (any_fault, said err s status.ReadFault file (the_file run.words) any_fault is (file_of run.words file h.0) tells)
-line_by run err (BadImage file fault) s is h tells not_done = (fault, said err s status.BadImage file (the_file run.words) fault is (file_of run.words file h.0.named) tells)
-line_by run err WriteFault s is h tells not_done = (any_fault, said err s status.WriteFault (the_file run.words) (the_file run.words) any_fault is refl tells)
-line_by run err Memory s is h tells not_done = (any_fault, said err s status.Memory (the_file run.words) (the_file run.words) any_fault is refl tells)
+line_by run err Usage s is h tells not_done = (0, any_fault, said err s status.Usage (the_file run.words 0) (the_file run.words 0) any_fault is refl tells)
+line_by run err (ReadFault file) s is h tells not_done =
+    (h.0.fails.place + 1, any_fault, said err s status.ReadFault file (the_file run.words (h.0.fails.place + 1)) any_fault is (unread_word run file h.0) tells)
+line_by run err (BadImage file fault) s is h tells not_done =
+    (h.0.number, fault, said err s status.BadImage file (the_file run.words h.0.number) fault is (sym h.0.word) tells)
+line_by run err WriteFault s is h tells not_done = (0, any_fault, said err s status.WriteFault (the_file run.words 0) (the_file run.words 0) any_fault is refl tells)
+line_by run err Memory s is h tells not_done = (0, any_fault, said err s status.Memory (the_file run.words 0) (the_file run.words 0) any_fault is refl tells)
 
-pub line : (run : Run) (err : Written) (s : Status) → EndsWith run err s → s ≢ status.Done → (fault : ImageFault) × Says err (line_of s (the_file run.words) fault)
+pub line : (run : Run) (err : Written) (s : Status) → EndsWith run err s → s ≢ status.Done
+    → (number : ℕ) × (fault : ImageFault) × Says err (line_of s (the_file run.words number) fault)
 line run err s ends = line_by run err ends.end s ends.is ends.happened ends.line
+
+-- A file that wasn't read has its line.
+unread_by : (run : Run) (err : Written) (end : End) (s : Status) → status_of end ≡ s → Happened run end → Tells err end → s ≡ status.ReadFault
+    → (file : List ℕ) × IsUnread run.shelf (the_files run.words) file × Says err (unread_line file)
+unread_by run err Done s is h tells e = cc
+unread_by run err Usage s is h tells e = cc
+unread_by run err (ReadFault file) s is h tells e =
+    (file, subst (λ files. IsUnread run.shelf files file) (files_of run.words h.0.files h.0.named) h.0.fails, tells)
+unread_by run err (BadImage file fault) s is h tells e = cc
+unread_by run err WriteFault s is h tells e = cc
+unread_by run err Memory s is h tells e = cc
+
+pub unread : (run : Run) (err : Written) (s : Status) → EndsWith run err s → s ≡ status.ReadFault
+    → (file : List ℕ) × IsUnread run.shelf (the_files run.words) file × Says err (unread_line file)
+unread run err s ends = unread_by run err ends.end s ends.is ends.happened ends.line
 
 -- At Done nothing is said.
 err_by : (err : Written) (end : End) (s : Status) → status_of end ≡ s → Tells err end → s ≡ status.Done → err.now ≡ err.before
@@ -115,76 +142,82 @@ pub err_counts : (run : Run) (err : Written) (s : Status) → EndsWith run err s
 err_counts run err s ends = counts_by err ends.end ends.line
 
 -- The bytes that were judged are the ones that the shelf tells.
-told : (files : Files) (words : List (List ℕ)) (file judged bytes : List ℕ) → named_file words ≡ Some file → IsFile files file judged → told_bytes files words ≡ Some bytes → judged ≡ bytes
-told None words file judged bytes named is e = cc
-told (Some files) words file judged bytes named is e = let found : option_and_then files (named_file words) ≡ files file = ap (option_and_then files) named in cc
+told : (files : Files) (words names judged bytes : List (List ℕ)) → named_files words ≡ Some names → AreFiles files names judged
+    → told_bytes files words ≡ Some bytes → judged ≡ bytes
+told None words names judged bytes named is e = cc
+told (Some files) words names judged bytes named is e =
+    let found : option_and_then (all_held files) (named_files words) ≡ all_held files names = ap (option_and_then (all_held files)) named in cc
 
-told_answer : (run : Run) (file bytes : List ℕ) (answer : Result (List ℕ) ImageFault) → Judged run file answer → told_bytes run.shelf.before run.words ≡ Some bytes → told_names run.words bytes ≡ answer
-told_answer run file bytes answer judged e =
-    let same : judged.bytes ≡ bytes = told run.shelf.before run.words file judged.bytes bytes judged.named judged.told e in
-    sym (ap (λ f. names_of f bytes) (file_of run.words file judged.named)) ∙ sym (ap (names_of file) same) ∙ judged.answers
+told_answer : (run : Run) (bytes : List (List ℕ)) (answer : Result (List ℕ) (ℕ × ImageFault)) → Judged run answer
+    → told_bytes run.shelf.before run.words ≡ Some bytes → told_names run.words bytes ≡ answer
+told_answer run bytes answer judged e =
+    let same : judged.bytes ≡ bytes = told run.shelf.before run.words judged.files judged.bytes bytes judged.named judged.told e in
+    sym (ap (λ files. names_of files bytes) (files_of run.words judged.files judged.named)) ∙ sym (ap (names_of judged.files) same) ∙ judged.answers
 
 -- A file that is refused has its line.
-bad_by : (run : Run) (err : Written) (end : End) (s : Status) (bytes : List ℕ) → status_of end ≡ s → Happened run end → Tells err end → told_bytes run.shelf.before run.words ≡ Some bytes → s ≡ status.BadImage
-    → (fault : ImageFault) × (told_names run.words bytes ≡ Err fault) × Says err (refused_line (the_file run.words) fault)
+bad_by : (run : Run) (err : Written) (end : End) (s : Status) (bytes : List (List ℕ)) → status_of end ≡ s → Happened run end → Tells err end
+    → told_bytes run.shelf.before run.words ≡ Some bytes → s ≡ status.BadImage
+    → (number : ℕ) × (fault : ImageFault) × (told_names run.words bytes ≡ Err (number, fault)) × Says err (refused_line (the_file run.words number) fault)
 bad_by run err Done s bytes is h tells e b = cc
 bad_by run err Usage s bytes is h tells e b = cc
 bad_by run err (ReadFault file) s bytes is h tells e b = cc
 bad_by run err (BadImage file fault) s bytes is h tells e b =
-    (fault, told_answer run file bytes (Err fault) h.0 e, subst (λ f. Says err (refused_line f fault)) (file_of run.words file h.0.named) tells)
+    (h.0.number, fault, told_answer run bytes (Err (h.0.number, fault)) h.0.judged e, subst (λ f. Says err (refused_line f fault)) (sym h.0.word) tells)
 bad_by run err WriteFault s bytes is h tells e b = cc
 bad_by run err Memory s bytes is h tells e b = cc
 
-pub bad_image : (run : Run) (err : Written) (s : Status) → EndsWith run err s → (bytes : List ℕ) → told_bytes run.shelf.before run.words ≡ Some bytes → s ≡ status.BadImage
-    → (fault : ImageFault) × (told_names run.words bytes ≡ Err fault) × Says err (refused_line (the_file run.words) fault)
+pub bad_image : (run : Run) (err : Written) (s : Status) → EndsWith run err s → (bytes : List (List ℕ)) → told_bytes run.shelf.before run.words ≡ Some bytes
+    → s ≡ status.BadImage
+    → (number : ℕ) × (fault : ImageFault) × (told_names run.words bytes ≡ Err (number, fault)) × Says err (refused_line (the_file run.words number) fault)
 bad_image run err s ends bytes = bad_by run err ends.end s bytes ends.is ends.happened ends.line
 
 -- A file with a fault is refused.
-has_command : (files : Files) (words : List (List ℕ)) (bytes : List ℕ) → told_bytes files words ≡ Some bytes → named_file words ≢ None
+has_command : (files : Files) (words bytes : List (List ℕ)) → told_bytes files words ≡ Some bytes → named_files words ≢ None
 has_command None words bytes e none = cc
-has_command (Some files) words bytes e none = let lost : option_and_then files (named_file words) ≡ None = ap (option_and_then files) none in cc
+has_command (Some files) words bytes e none = let lost : option_and_then (all_held files) (named_files words) ≡ None = ap (option_and_then (all_held files)) none in cc
 
-refused_by : (run : Run) (end : End) (s : Status) (bytes : List ℕ) (fault : ImageFault) → status_of end ≡ s → Happened run end
-    → told_bytes run.shelf.before run.words ≡ Some bytes → told_names run.words bytes ≡ Err fault → ¬ (Rose run.shelf.faults_before run.shelf.faults_now)
-    → (s ≡ status.BadImage) ⊎ (s ≡ status.Memory)
-refused_by run Done s bytes fault is (text, reports, written) e bad calm = let good = told_answer run reports.file bytes (Ok text) reports.judged e in cc
-refused_by run Usage s bytes fault is h e bad calm = absurd (has_command run.shelf.before run.words bytes e h.0)
-refused_by run (ReadFault file) s bytes fault is h e bad calm = absurd (calm h.1)
-refused_by run (BadImage file other) s bytes fault is h e bad calm = inl (sym is)
-refused_by run WriteFault s bytes fault is (text, reports, prefix, rose) e bad calm = let good = told_answer run reports.file bytes (Ok text) reports.judged e in cc
-refused_by run Memory s bytes fault is h e bad calm = inr (sym is)
+refused_by : (run : Run) (end : End) (s : Status) (bytes : List (List ℕ)) (number : ℕ) (fault : ImageFault) → status_of end ≡ s → Happened run end
+    → told_bytes run.shelf.before run.words ≡ Some bytes → told_names run.words bytes ≡ Err (number, fault)
+    → ¬ (Rose run.shelf.faults_before run.shelf.faults_now) → (s ≡ status.BadImage) ⊎ (s ≡ status.Memory)
+refused_by run Done s bytes number fault is (text, judged, written) e bad calm = let good = told_answer run bytes (Ok text) judged e in cc
+refused_by run Usage s bytes number fault is h e bad calm = absurd (has_command run.shelf.before run.words bytes e h.0)
+refused_by run (ReadFault file) s bytes number fault is h e bad calm = absurd (calm h.0.fails.cause)
+refused_by run (BadImage file other) s bytes number fault is h e bad calm = inl (sym is)
+refused_by run WriteFault s bytes number fault is (text, judged, prefix, rose) e bad calm = let good = told_answer run bytes (Ok text) judged e in cc
+refused_by run Memory s bytes number fault is h e bad calm = inr (sym is)
 
-pub refused : (run : Run) (err : Written) (s : Status) → EndsWith run err s → (bytes : List ℕ) (fault : ImageFault)
-    → told_bytes run.shelf.before run.words ≡ Some bytes → told_names run.words bytes ≡ Err fault → ¬ (Rose run.shelf.faults_before run.shelf.faults_now)
-    → (s ≡ status.BadImage) ⊎ (s ≡ status.Memory)
-refused run err s ends bytes fault = refused_by run ends.end s bytes fault ends.is ends.happened
+pub refused : (run : Run) (err : Written) (s : Status) → EndsWith run err s → (bytes : List (List ℕ)) (number : ℕ) (fault : ImageFault)
+    → told_bytes run.shelf.before run.words ≡ Some bytes → told_names run.words bytes ≡ Err (number, fault)
+    → ¬ (Rose run.shelf.faults_before run.shelf.faults_now) → (s ≡ status.BadImage) ⊎ (s ≡ status.Memory)
+refused run err s ends bytes number fault = refused_by run ends.end s bytes number fault ends.is ends.happened
 
--- A file that passes has its text.
-done_by : (run : Run) (end : End) (s : Status) (bytes : List ℕ) → status_of end ≡ s → Happened run end → told_bytes run.shelf.before run.words ≡ Some bytes → s ≡ status.Done
+-- Files that pass have their text.
+done_by : (run : Run) (end : End) (s : Status) (bytes : List (List ℕ)) → status_of end ≡ s → Happened run end
+    → told_bytes run.shelf.before run.words ≡ Some bytes → s ≡ status.Done
     → (text : List ℕ) × (told_names run.words bytes ≡ Ok text) × (run.out.now ≡ then_bytes run.out.before text)
-done_by run Done s bytes is (text, reports, written) e d = (text, told_answer run reports.file bytes (Ok text) reports.judged e, written)
+done_by run Done s bytes is (text, judged, written) e d = (text, told_answer run bytes (Ok text) judged e, written)
 done_by run Usage s bytes is h e d = cc
 done_by run (ReadFault file) s bytes is h e d = cc
 done_by run (BadImage file fault) s bytes is h e d = cc
 done_by run WriteFault s bytes is h e d = cc
 done_by run Memory s bytes is h e d = cc
 
-pub done : (run : Run) (err : Written) (s : Status) → EndsWith run err s → (bytes : List ℕ) → told_bytes run.shelf.before run.words ≡ Some bytes → s ≡ status.Done
-    → (text : List ℕ) × (told_names run.words bytes ≡ Ok text) × (run.out.now ≡ then_bytes run.out.before text)
+pub done : (run : Run) (err : Written) (s : Status) → EndsWith run err s → (bytes : List (List ℕ)) → told_bytes run.shelf.before run.words ≡ Some bytes
+    → s ≡ status.Done → (text : List ℕ) × (told_names run.words bytes ≡ Ok text) × (run.out.now ≡ then_bytes run.out.before text)
 done run err s ends bytes = done_by run ends.end s bytes ends.is ends.happened
 
-complete_by : (run : Run) (end : End) (s : Status) (bytes text : List ℕ) → status_of end ≡ s → Happened run end
+complete_by : (run : Run) (end : End) (s : Status) (bytes : List (List ℕ)) (text : List ℕ) → status_of end ≡ s → Happened run end
     → told_bytes run.shelf.before run.words ≡ Some bytes → told_names run.words bytes ≡ Ok text
     → ¬ (Rose run.shelf.faults_before run.shelf.faults_now) → ¬ (Rose run.out.faults_before run.out.faults_now)
     → (s ≡ status.Done) ⊎ (s ≡ status.Memory)
 complete_by run Done s bytes text is h e good calm quiet = inl (sym is)
 complete_by run Usage s bytes text is h e good calm quiet = absurd (has_command run.shelf.before run.words bytes e h.0)
-complete_by run (ReadFault file) s bytes text is h e good calm quiet = absurd (calm h.1)
-complete_by run (BadImage file fault) s bytes text is h e good calm quiet = let bad = told_answer run file bytes (Err fault) h.0 e in cc
-complete_by run WriteFault s bytes text is (t, reports, prefix, rose) e good calm quiet = absurd (quiet rose)
+complete_by run (ReadFault file) s bytes text is h e good calm quiet = absurd (calm h.0.fails.cause)
+complete_by run (BadImage file fault) s bytes text is h e good calm quiet = let bad = told_answer run bytes (Err (h.0.number, fault)) h.0.judged e in cc
+complete_by run WriteFault s bytes text is (t, judged, prefix, rose) e good calm quiet = absurd (quiet rose)
 complete_by run Memory s bytes text is h e good calm quiet = inr (sym is)
 
-pub complete : (run : Run) (err : Written) (s : Status) → EndsWith run err s → (bytes text : List ℕ)
+pub complete : (run : Run) (err : Written) (s : Status) → EndsWith run err s → (bytes : List (List ℕ)) (text : List ℕ)
     → told_bytes run.shelf.before run.words ≡ Some bytes → told_names run.words bytes ≡ Ok text
     → ¬ (Rose run.shelf.faults_before run.shelf.faults_now) → ¬ (Rose run.out.faults_before run.out.faults_now)
     → (s ≡ status.Done) ⊎ (s ≡ status.Memory)

@@ -1,5 +1,8 @@
+pub mod Checking
 pub mod Endings
+pub mod Fetching
+pub mod FileWords
 pub mod FullNames
 pub mod Listed
 pub mod Listing
-pub mod Listings
+pub mod Zipped

@@ -1,28 +1,17 @@
 -- How a run ends, and what it has then done outside.
-use Rattle.std.specs.Prelude.{◌≡◌, ◌⊎◌, ℕ, ◌≤◌, List, [], Option, None, Some, Result, Ok, Err, IsSome, unwrap_or}
+use Rattle.std.specs.Prelude.{◌≡◌, ◌⊎◌, ℕ, ◌-◌, ◌≤◌, List, [], Option, None, Some, Result, Ok, Err, IsSome, slice_get, unwrap_or}
 use Rattle.std.specs.Option.{option_and_then}
 use Rattle.clr_base.specs.Causes.{Rose}
 use Rattle.clr_base.specs.Content.{then_bytes, AppendsPrefix}
-use Rattle.clr_base.specs.Files.{IsFile}
 use Rattle.clr_base.specs.declared.image_fault.ImageFault.{ImageFault}
-use Rattle.clr_core.specs.Command.{named_file}
+use Rattle.clr_core.specs.Command.{named_files}
+use Rattle.clr_core.specs.Fetched.{Files, Shelved, AreFiles, IsUnread, all_held}
 use Rattle.clr_core.specs.Lines.{usage_line, unread_line, refused_line, unwritten_line, memory_line}
 use Rattle.clr_core.specs.Names.{names_of}
 use Rattle.clr_core.specs.declared.status.Stop.{Stop}
 use Rattle.clr_core.specs.declared.status.Stop.TheVariants as stop
 use Rattle.clr_core.specs.declared.status.Status.{Status}
 use Rattle.clr_core.specs.declared.status.Status.TheVariants as status
-
--- a shelf's files, where it tells them: the bytes of each by its name
-abbrev pub Files : Type 0
-Files = Option (List ℕ → Option (List ℕ))
-
--- a shelf before a run and after it: its files, and its count of faults
-pub record Shelved : Type 0 where
-  pub before : Files
-  pub now : Files
-  pub faults_before : ℕ
-  pub faults_now : ℕ
 
 -- a sink before a run and after it: what it holds, where it tells it, and its count of faults
 pub record Written : Type 0 where
@@ -31,11 +20,7 @@ pub record Written : Type 0 where
   pub faults_before : ℕ
   pub faults_now : ℕ
 
--- a shelf by what it tells, as a call found it and as it left it
-abbrev pub shelved : {S : Type 0} → (S → Files) → (S → ℕ) → S → S → Shelved
-shelved files faults old new = record { before = files old; now = files new; faults_before = faults old; faults_now = faults new }
-
--- the same of a sink
+-- a sink by what it tells, as a call found it and as it left it
 abbrev pub written : {S : Type 0} → (S → Option (List ℕ)) → (S → ℕ) → S → S → Written
 written content faults old new = record { before = content old; now = content new; faults_before = faults old; faults_now = faults new }
 
@@ -54,30 +39,59 @@ pub data End : Type 0 where
   WriteFault : End
   Memory : End
 
--- The file of the command was fetched, and this came of its bytes: the text that is written of it, or its first fault.
-pub record Judged (run : Run) (file : List ℕ) (answer : Result (List ℕ) ImageFault) : Type 0 where
-  pub named : named_file run.words ≡ Some file
-  pub bytes : List ℕ
-  pub told : IsFile run.shelf.before file bytes
-  pub answers : names_of file bytes ≡ answer
+-- All files of the command were fetched, and this came of their bytes: the text that is written, or the number of the first
+-- that is refused, from 1, with its first fault.
+pub record Judged (run : Run) (answer : Result (List ℕ) (ℕ × ImageFault)) : Type 0 where
+  pub files : List (List ℕ)
+  pub named : named_files run.words ≡ Some files
+  pub bytes : List (List ℕ)
+  pub told : AreFiles run.shelf.before files bytes
+  pub answers : names_of files bytes ≡ answer
+
+-- the words of the command's files
+abbrev pub the_files : List (List ℕ) → List (List ℕ)
+the_files words = unwrap_or (named_files words) []
+
+-- the word of one of them by its number, from 1
+abbrev pub the_file : List (List ℕ) → ℕ → List ℕ
+the_file words number = unwrap_or (slice_get (the_files words) (number - 1)) []
 
 -- nothing was written, and nothing failed
 pub record IsUntouched (sink : Written) : Type 0 where
   pub content : sink.now ≡ sink.before
   pub faults : sink.faults_now ≡ sink.faults_before
 
--- the text of a run that comes to its write
-pub record Reports (run : Run) (text : List ℕ) : Type 0 where
-  pub file : List ℕ
-  pub judged : Judged run file (Ok text)
+-- why not all files were fetched
+abbrev pub StopsFetch : Shelved → List (List ℕ) → End → Type 0
+StopsFetch shelf names (ReadFault file) = IsUnread shelf names file
+StopsFetch shelf names Memory = Unit {0}
+StopsFetch shelf names end = ⊥
+
+-- why files that were fetched have no text: one is refused, and this is its word
+abbrev pub StopsChecks : List (List ℕ) → List (List ℕ) → End → Type 0
+StopsChecks names bytes (BadImage file fault) = (number : ℕ) × (names_of names bytes ≡ Err (number, fault)) × (slice_get names (number - 1) ≡ Some file)
+StopsChecks names bytes Memory = Unit {0}
+StopsChecks names bytes end = ⊥
+
+-- A file wasn't read, and this is its word.
+pub record Unread (run : Run) (file : List ℕ) : Type 0 where
+  pub files : List (List ℕ)
+  pub named : named_files run.words ≡ Some files
+  pub fails : IsUnread run.shelf files file
+
+-- A file is refused by this fault, and this is its word.
+pub record Refused (run : Run) (file : List ℕ) (fault : ImageFault) : Type 0 where
+  pub number : ℕ
+  pub judged : Judged run (Err (number, fault))
+  pub word : the_file run.words number ≡ file
 
 abbrev pub Happened : Run → End → Type 0
-Happened run Done = (text : List ℕ) × Reports run text × (run.out.now ≡ then_bytes run.out.before text)
-Happened run Usage = (named_file run.words ≡ None) × IsUntouched run.out × (run.shelf.faults_now ≡ run.shelf.faults_before)
-Happened run (ReadFault file) = (named_file run.words ≡ Some file) × Rose run.shelf.faults_before run.shelf.faults_now × IsUntouched run.out
-Happened run (BadImage file fault) = Judged run file (Err fault) × IsUntouched run.out
-Happened run WriteFault = (text : List ℕ) × Reports run text × AppendsPrefix run.out.before run.out.now text × Rose run.out.faults_before run.out.faults_now
-Happened run Memory = IsSome (named_file run.words) × IsUntouched run.out
+Happened run Done = (text : List ℕ) × Judged run (Ok text) × (run.out.now ≡ then_bytes run.out.before text)
+Happened run Usage = (named_files run.words ≡ None) × IsUntouched run.out × (run.shelf.faults_now ≡ run.shelf.faults_before)
+Happened run (ReadFault file) = Unread run file × IsUntouched run.out
+Happened run (BadImage file fault) = Refused run file fault × IsUntouched run.out
+Happened run WriteFault = (text : List ℕ) × Judged run (Ok text) × AppendsPrefix run.out.before run.out.now text × Rose run.out.faults_before run.out.faults_now
+Happened run Memory = IsSome (named_files run.words) × IsUntouched run.out
 
 -- The files stay as they were, and no count of faults falls.
 pub record Keeps (shelf : Shelved) (sink : Written) : Type 0 where
@@ -135,20 +149,16 @@ pub record EndsWith (run : Run) (err : Written) (reached : Status) : Type 0 wher
   pub line : Tells err end
   pub keeps : Keeps run.shelf run.out
 
--- the file of the command
-abbrev pub the_file : List (List ℕ) → List ℕ
-the_file words = unwrap_or (named_file words) []
-
--- the bytes of the command's file, where the shelf tells them
-abbrev pub told_bytes : Files → List (List ℕ) → Option (List ℕ)
+-- the bytes of the command's files, where the shelf tells them
+abbrev pub told_bytes : Files → List (List ℕ) → Option (List (List ℕ))
 told_bytes None words = None
-told_bytes (Some files) words = option_and_then files (named_file words)
+told_bytes (Some files) words = option_and_then (all_held files) (named_files words)
 
--- what `names` answers of them: its text, or the first fault
-abbrev pub told_names : List (List ℕ) → List ℕ → Result (List ℕ) ImageFault
-told_names words bytes = names_of (the_file words) bytes
+-- what `names` answers of them: its text, or the first fault of the first that is refused, with that file's number
+abbrev pub told_names : List (List ℕ) → List (List ℕ) → Result (List ℕ) (ℕ × ImageFault)
+told_names words bytes = names_of (the_files words) bytes
 
--- the line of a status, of the command's file and its fault
+-- the line of a status, of a file and its fault
 abbrev pub line_of : Status → List ℕ → ImageFault → List ℕ
 line_of status.Done file fault = []
 line_of status.Usage file fault = usage_line

@@ -1,4 +1,5 @@
 pub mod Command
 pub mod Ends
+pub mod Fetched
 pub mod Lines
 pub mod Names

@@ -1,13 +1,12 @@
--- What `names` writes of a file.
-use Rattle.std.specs.Prelude.{◌≡◌, ℕ, zero, suc, ◌+◌, ◌<◌, ◌≤◌, List, [], ◌++◌, length, get_or, slice_range, codes, ◌==◌, if◌then◌else◌, unwrap_or, Result}
-use Rattle.std.specs.List.{flat_map, range_with_len}
+-- What `names` writes of files.
+use Rattle.std.specs.Prelude.{◌≡◌, ℕ, zero, suc, ◌+◌, ◌<◌, ◌≤◌, List, [], ◌++◌, length, get_or, slice_range, codes, ◌==◌, if◌then◌else◌, unwrap_or, Result, Ok, Err}
+use Rattle.std.specs.List.{flat_map, range_with_len, zip}
 use Rattle.clr_base.specs.declared.image_fault.ImageFault.{ImageFault}
-use Rattle.clr_base.specs.Checks.{outcome}
 use Rattle.cli_tables.specs.Heaps.{text_at}
 use Rattle.cli_tables.specs.Layout.{cell, row_count}
 use Rattle.cli_tables.specs.Metadata.{Metadata}
 use Rattle.clr_core.specs.declared.names.Place.{Place}
-use Rattle.world_build.specs.Image.{image_checks, metadata_in}
+use Rattle.world_build.specs.Images.{images_of}
 use Rattle.world_build.specs.Nesting.{enclosing_row}
 
 -- the text that a cell of TypeDef (ECMA-335 II.22.37) has the index of
@@ -39,12 +38,22 @@ unfoldable pub type_line : Metadata → ℕ → List ℕ
 type_line m row = codes "  " ++ full_name m row ++ codes "\n"
 
 -- the file's word, then the full name of each type definition, each on a line of its own
-unfoldable pub names_text : List ℕ → Metadata → List ℕ
-names_text file m = file ++ codes "\n" ++ flat_map (type_line m) (range_with_len 1 (row_count m.tables 0x02))
+unfoldable pub file_text : List ℕ → Metadata → List ℕ
+file_text file m = file ++ codes "\n" ++ flat_map (type_line m) (range_with_len 1 (row_count m.tables 0x02))
 
--- what is written of a file of that name and these bytes, or its first fault
-abbrev pub names_of : List ℕ → List ℕ → Result (List ℕ) ImageFault
-names_of file bytes = outcome (image_checks bytes) (names_text file (metadata_in bytes))
+-- the same of each file in order: of its word and its metadata
+unfoldable pub names_text : List (List ℕ) → List Metadata → List ℕ
+names_text files images = flat_map (λ file. file_text file.0 file.1) (zip files images)
+
+-- the text of files that are read, or what refuses one of them
+abbrev pub text_or_fault : List (List ℕ) → Result (List Metadata) (ℕ × ImageFault) → Result (List ℕ) (ℕ × ImageFault)
+text_or_fault files (Ok images) = Ok (names_text files images)
+text_or_fault files (Err refusal) = Err refusal
+
+-- What is written of files of these names and these bytes, or the number of the first that is refused, from 1, with its
+-- first fault.
+abbrev pub names_of : List (List ℕ) → List (List ℕ) → Result (List ℕ) (ℕ × ImageFault)
+names_of files bytes = text_or_fault files (images_of bytes)
 
 -- a name stands at a place of a text
 pub record StandsAt (text name : List ℕ) (place : Place) : Type 0 where

@@ -2,6 +2,7 @@
 #![tactic(auto)]
 
 mod command;
+mod fetch;
 mod lines;
 mod names;
 mod status;

@@ -1,6 +1,7 @@
-//! What `names` writes of a file.
-ghost use Rattle.std.specs.Prelude.{◌≡◌, ◌-◌, ◌++◌, ◌≤◌, ◌⊎◌, IfOk, OnOk};
+//! What `names` writes of files.
+ghost use Rattle.std.specs.Prelude.{◌≡◌, ◌-◌, ◌++◌, ◌≤◌, ◌⊎◌, All, length, IfOk, OnOk};
 ghost use Rattle.cli_tables.specs.Layout.{row_count};
+ghost use Rattle.clr_core.specs.Command.{texts_of};
 ghost use Rattle.clr_core.specs.Names as spec;
 ghost use Rattle.world_build.specs.Nesting.{AreTypesNamed, enclosing_row};
 
@@ -112,21 +113,40 @@ fn push_type(
     Ok(())
 }
 
-/// The file's word, then the full name of each type definition, each on a line of its own. Time and memory go with the
-/// text, the rows of TypeDef and NestedClass, and the names that are read.
-#[tactic(auto, unfolding(crate::specs::Names::names_text))]
-pub fn names_text(alloc: Global, file: &str, tables: &Tables<'_>) -> Result<Bytes, Memory>
+/// Appends a file's word, then the full name of each type definition, each on a line of its own.
+#[tactic(auto, unfolding(crate::specs::Names::file_text))]
+fn push_file(
+    alloc: Global,
+    text: &mut Vec<u8>,
+    file: &str,
+    tables: &Tables<'_>,
+) -> Result<(), Memory>
     requires { AreTypesNamed tables.now }
-    ensures { IfOk result (λ text. text ≡ spec.names_text file.now tables.now) }
+    ensures { OnOk result (text.new.items ≡ text.old.items ++ spec.file_text file.now tables.now) }
 {
     let count = tables.row_count(TYPE_DEF);
     let enclosing = enclosing_rows(alloc, tables)?;
-    let mut text = Vec::from_slice(alloc, file.as_bytes())?;
-    push(&mut text, "\n")?;
+    push(text, file)?;
+    push(text, "\n")?;
     let mut places = Items::from_vec(Vec::with_capacity(alloc, count as usize)?);
     for row in 0..count {
         let outer = enclosing.as_slice()[row as usize + 1];
-        push_type(&mut text, &mut places, tables, row + 1, outer)?;
+        push_type(text, &mut places, tables, row + 1, outer)?;
+    }
+    Ok(())
+}
+
+/// What is written of files, of the word and the tables of each in order. Time and memory go with the text, the rows of
+/// TypeDef and NestedClass, and the names that are read.
+#[tactic(auto, unfolding(crate::specs::Names::names_text))]
+pub fn names_text(alloc: Global, files: &[String], images: &[Tables<'_>]) -> Result<Bytes, Memory>
+    requires count { length files.now ≡ length images.now }
+    requires named { All AreTypesNamed images.now }
+    ensures { IfOk result (λ text. text ≡ spec.names_text (texts_of files.now) images.now) }
+{
+    let mut text = Vec::new(alloc);
+    for k in 0..files.len() {
+        push_file(alloc, &mut text, files[k].as_str(), &images[k])?;
     }
     Ok(Bytes::from_vec(text))
 }

@@ -1,22 +1,47 @@
 //! The top call.
-ghost use Rattle.std.specs.Prelude.{◌≡◌, ◌≢◌, ◌↔◌, ◌≤◌, ◌⊎◌, ℕ, List};
+ghost use Rattle.std.specs.Prelude.{◌≡◌, ◌≢◌, ◌↔◌, ◌≤◌, ◌⊎◌, ℕ, List, length, IfErr, IfOk};
 ghost use Rattle.clr_base.specs.Causes.{Rose};
 ghost use Rattle.clr_base.specs.Content.{then_bytes};
 ghost use Rattle.clr_base.specs.declared.image_fault.ImageFault.{ImageFault};
-ghost use Rattle.clr_core.specs.Command.{named_file, texts_of};
-ghost use Rattle.clr_core.specs.Ends.{Happened, Keeps, Says, EndsWith, end_of, shelved, written, the_file, told_bytes, told_names, line_of};
-ghost use Rattle.clr_core.specs.Lines.{refused_line};
+ghost use Rattle.clr_core.specs.Command.{named_files, texts_of};
+ghost use Rattle.clr_core.specs.Ends.{Happened, Keeps, Says, EndsWith, StopsChecks, end_of, end_of_stop, written, the_file, the_files, told_bytes, told_names, line_of};
+ghost use Rattle.clr_core.specs.Fetched.{IsUnread, shelved};
+ghost use Rattle.clr_core.specs.Lines.{refused_line, unread_line};
+ghost use Rattle.clr_core.specs.Names.{names_of};
+ghost use Rattle.world_build.specs.Images.{bytes_of_each};
 
 use crate::command;
+use crate::fetch::fetch_all;
 use crate::lines::say_stop;
 use crate::names::names_text;
 use crate::status::{Outcome, Status, Stop};
-use clr_base::{FetchFault, Gate, Shelf, Sink, put_all};
+use clr_base::{Bytes, Gate, Shelf, Sink, put_all};
 use std::alloc::Global;
 use std::thread::Threads;
-use world_build::{Refusal, read_image};
+use world_build::{ImagesFault, read_images};
 
-/// Words, fetch, checks, text, write: the whole text is there before the first write.
+/// What is written of the files that were fetched. They are all checked first, in order.
+fn text_of<'a>(alloc: Global, names: &'a [String], files: &[Vec<u8>]) -> Result<Bytes, Stop<'a>>
+    requires count { length files.now ≡ length names.now }
+    requires few { length names.now ≤ 16 }
+    ensures text { IfOk result (λ text. names_of (texts_of names.now) (bytes_of_each files.now) ≡ Ok text) }
+    ensures stopped { IfErr result (λ stop. StopsChecks (texts_of names.now) (bytes_of_each files.now) (end_of_stop stop)) }
+{
+    let images = match read_images(alloc, files) {
+        Ok(images) => images,
+        Err(ImagesFault::Image(number, fault)) => {
+            return Err(Stop::BadImage(names[number as usize - 1].as_str(), fault));
+        }
+        Err(ImagesFault::Memory) => return Err(Stop::Memory),
+    };
+    match names_text(alloc, names, images.as_slice()) {
+        Ok(text) => Ok(text),
+        Err(_) => Err(Stop::Memory),
+    }
+}
+
+/// Words, fetches, checks, text, write: all files are there before the first check, and the whole text before the first
+/// write.
 fn run<'a, F: Shelf, O: Sink>(
     alloc: Global,
     words: &'a [String],
@@ -34,22 +59,11 @@ fn run<'a, F: Shelf, O: Sink>(
         (shelved F.files F.faults shelf.old shelf.new)
         (written O.content O.faults out.old out.new) }
 {
-    let Some(file) = command::named_file(words) else {
+    let Some(names) = command::named_files(words) else {
         return Err(Stop::Usage);
     };
-    let bytes = match shelf.fetch(alloc, file) {
-        Ok(bytes) => bytes,
-        Err(FetchFault::Failed) => return Err(Stop::ReadFault(file)),
-        Err(FetchFault::Memory) => return Err(Stop::Memory),
-    };
-    let tables = match read_image(alloc, &bytes) {
-        Ok(tables) => tables,
-        Err(Refusal::Fault(fault)) => return Err(Stop::BadImage(file, fault)),
-        Err(Refusal::Memory) => return Err(Stop::Memory),
-    };
-    let Ok(text) = names_text(alloc, file, &tables) else {
-        return Err(Stop::Memory);
-    };
+    let files = fetch_all(alloc, names, shelf)?;
+    let text = text_of(alloc, names, files.as_slice())?;
     match put_all(out, text.as_slice()) {
         Ok(()) => Ok(()),
         Err(_) => Err(Stop::WriteFault),
@@ -101,29 +115,32 @@ pub fn clr_quiet<F: Shelf, O: Sink, E: Sink>(
         (written E.content E.faults err.old err.new)
         result }
     // exactly where the words are no command
-    ensures usage { (result ≡ Status.Usage) ↔ (named_file (texts_of words.now) ≡ None) }
+    ensures usage { (result ≡ Status.Usage) ↔ (named_files (texts_of words.now) ≡ None) }
     // a fault has its cause
     ensures read_fault { result ≡ Status.ReadFault → Rose (F.faults shelf.old) (F.faults shelf.new) }
+    ensures unread { result ≡ Status.ReadFault →
+        (file : List ℕ) × IsUnread (shelved F.files F.faults shelf.old shelf.new) (the_files (texts_of words.now)) file
+        × Says (written E.content E.faults err.old err.new) (unread_line file) }
     ensures write_fault { result ≡ Status.WriteFault → Rose (O.faults out.old) (O.faults out.new) }
-    // a file is refused exactly where one of its checks fails, with the line of the first that does
-    ensures bad_image { (bytes : List ℕ) →
+    // a file is refused exactly where a check fails: the first of the files that fails one, with its first fault
+    ensures bad_image { (bytes : List (List ℕ)) →
         told_bytes (F.files shelf.old) (texts_of words.now) ≡ Some bytes →
         result ≡ Status.BadImage →
-        (fault : ImageFault) × (told_names (texts_of words.now) bytes ≡ Err fault)
+        (number : ℕ) × (fault : ImageFault) × (told_names (texts_of words.now) bytes ≡ Err (number, fault))
         × Says (written E.content E.faults err.old err.new)
-        (refused_line (the_file (texts_of words.now)) fault) }
-    ensures refused { (bytes : List ℕ) (fault : ImageFault) →
+        (refused_line (the_file (texts_of words.now) number) fault) }
+    ensures refused { (bytes : List (List ℕ)) (number : ℕ) (fault : ImageFault) →
         told_bytes (F.files shelf.old) (texts_of words.now) ≡ Some bytes →
-        told_names (texts_of words.now) bytes ≡ Err fault →
+        told_names (texts_of words.now) bytes ≡ Err (number, fault) →
         ¬ (Rose (F.faults shelf.old) (F.faults shelf.new)) →
         (result ≡ Status.BadImage) ⊎ (result ≡ Status.Memory) }
     // its whole text is written, and so it is wherever no check and nothing outside fails
-    ensures done { (bytes : List ℕ) →
+    ensures done { (bytes : List (List ℕ)) →
         told_bytes (F.files shelf.old) (texts_of words.now) ≡ Some bytes →
         result ≡ Status.Done →
         (text : List ℕ) × (told_names (texts_of words.now) bytes ≡ Ok text)
         × (O.content out.new ≡ then_bytes (O.content out.old) text) }
-    ensures complete { (bytes text : List ℕ) →
+    ensures complete { (bytes : List (List ℕ)) (text : List ℕ) →
         told_bytes (F.files shelf.old) (texts_of words.now) ≡ Some bytes →
         told_names (texts_of words.now) bytes ≡ Ok text →
         ¬ (Rose (F.faults shelf.old) (F.faults shelf.new)) →
@@ -138,8 +155,8 @@ pub fn clr_quiet<F: Shelf, O: Sink, E: Sink>(
         × (O.faults out.old ≤ O.faults out.new) × (E.faults err.old ≤ E.faults err.new) }
     // the line of every other status is appended, or a prefix of it where that sink failed
     ensures line { result ≢ Status.Done →
-        (fault : ImageFault) × Says (written E.content E.faults err.old err.new)
-        (line_of result (the_file (texts_of words.now)) fault) }
+        (number : ℕ) × (fault : ImageFault) × Says (written E.content E.faults err.old err.new)
+        (line_of result (the_file (texts_of words.now) number) fault) }
 {
     answer(alloc, words, shelf, out, err)
 }
@@ -164,29 +181,32 @@ pub fn clr<R: Threads + Sync, F: Shelf, O: Sink, E: Sink, G: Gate + Sync>(
         (written E.content E.faults err.old err.new)
         result.status }
     // exactly where the words are no command
-    ensures usage { (result.status ≡ Status.Usage) ↔ (named_file (texts_of words.now) ≡ None) }
+    ensures usage { (result.status ≡ Status.Usage) ↔ (named_files (texts_of words.now) ≡ None) }
     // a fault has its cause
     ensures read_fault { result.status ≡ Status.ReadFault → Rose (F.faults shelf.old) (F.faults shelf.new) }
+    ensures unread { result.status ≡ Status.ReadFault →
+        (file : List ℕ) × IsUnread (shelved F.files F.faults shelf.old shelf.new) (the_files (texts_of words.now)) file
+        × Says (written E.content E.faults err.old err.new) (unread_line file) }
     ensures write_fault { result.status ≡ Status.WriteFault → Rose (O.faults out.old) (O.faults out.new) }
-    // a file is refused exactly where one of its checks fails, with the line of the first that does
-    ensures bad_image { (bytes : List ℕ) →
+    // a file is refused exactly where a check fails: the first of the files that fails one, with its first fault
+    ensures bad_image { (bytes : List (List ℕ)) →
         told_bytes (F.files shelf.old) (texts_of words.now) ≡ Some bytes →
         result.status ≡ Status.BadImage →
-        (fault : ImageFault) × (told_names (texts_of words.now) bytes ≡ Err fault)
+        (number : ℕ) × (fault : ImageFault) × (told_names (texts_of words.now) bytes ≡ Err (number, fault))
         × Says (written E.content E.faults err.old err.new)
-        (refused_line (the_file (texts_of words.now)) fault) }
-    ensures refused { (bytes : List ℕ) (fault : ImageFault) →
+        (refused_line (the_file (texts_of words.now) number) fault) }
+    ensures refused { (bytes : List (List ℕ)) (number : ℕ) (fault : ImageFault) →
         told_bytes (F.files shelf.old) (texts_of words.now) ≡ Some bytes →
-        told_names (texts_of words.now) bytes ≡ Err fault →
+        told_names (texts_of words.now) bytes ≡ Err (number, fault) →
         ¬ (Rose (F.faults shelf.old) (F.faults shelf.new)) →
         (result.status ≡ Status.BadImage) ⊎ (result.status ≡ Status.Memory) }
     // its whole text is written, and so it is wherever no check and nothing outside fails
-    ensures done { (bytes : List ℕ) →
+    ensures done { (bytes : List (List ℕ)) →
         told_bytes (F.files shelf.old) (texts_of words.now) ≡ Some bytes →
         result.status ≡ Status.Done →
         (text : List ℕ) × (told_names (texts_of words.now) bytes ≡ Ok text)
         × (O.content out.new ≡ then_bytes (O.content out.old) text) }
-    ensures complete { (bytes text : List ℕ) →
+    ensures complete { (bytes : List (List ℕ)) (text : List ℕ) →
         told_bytes (F.files shelf.old) (texts_of words.now) ≡ Some bytes →
         told_names (texts_of words.now) bytes ≡ Ok text →
         ¬ (Rose (F.faults shelf.old) (F.faults shelf.new)) →
@@ -201,8 +221,8 @@ pub fn clr<R: Threads + Sync, F: Shelf, O: Sink, E: Sink, G: Gate + Sync>(
         × (O.faults out.old ≤ O.faults out.new) × (E.faults err.old ≤ E.faults err.new) }
     // the line of every other status is appended, or a prefix of it where that sink failed
     ensures line { result.status ≢ Status.Done →
-        (fault : ImageFault) × Says (written E.content E.faults err.old err.new)
-        (line_of result.status (the_file (texts_of words.now)) fault) }
+        (number : ℕ) × (fault : ImageFault) × Says (written E.content E.faults err.old err.new)
+        (line_of result.status (the_file (texts_of words.now) number) fault) }
 {
     let status = clr_quiet(alloc, words, shelf, out, err);
     Outcome { status }

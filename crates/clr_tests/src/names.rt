@@ -1,4 +1,4 @@
-//! `names FILE`.
+//! `names` over one file.
 use crate::image::{Draft, SMALLEST, image};
 use crate::run::{Failing, NOTHING_FAILS, run};
 use clr_core::Status;
@@ -11,13 +11,15 @@ const LISTED: &[u8] = b"m.dll\n  <Module>\n";
 const USAGE: &[u8] =
     b"clr: usage: names FILE.. / types FILE.. -- TYPE.. / run OPTION.. FILE.. -- ENTRY.. / big N\n";
 
-const NO_COMMANDS: [&[&str]; 6] = [
+const NO_COMMANDS: [&[&str]; 8] = [
     &[],
     &["frob"],
     &["names"],
     &["names", ""],
     &["names", "-m.dll"],
-    &["names", "m.dll", "m.dll"],
+    &["names", "m.dll", ""],
+    &["names", "m.dll", "-m.dll"],
+    &["types", "m.dll"],
 ];
 
 #[test]

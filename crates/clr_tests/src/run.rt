@@ -29,7 +29,7 @@ fn sink(alloc: Global, failing: &[u64]) -> Result<MemSink, AllocError> {
     MemSink::new(alloc, 1000, 3, Vec::from_slice(alloc, failing)?)
 }
 
-/// Runs the words over one file, `m.dll`. Both sinks take at most 3 bytes at a time.
+/// Runs the words over one file, `m.dll`.
 pub fn run<R: Threads + Sync>(
     rt: &R,
     alloc: Global,
@@ -37,16 +37,29 @@ pub fn run<R: Threads + Sync>(
     file: &[u8],
     failing: Failing<'_>,
 ) -> Result<Ran, AllocError> {
+    run_files(rt, alloc, words, &[("m.dll", file)], failing)
+}
+
+/// Runs the words over files, each with its name and its bytes. Both sinks take at most 3 bytes at a time.
+pub fn run_files<R: Threads + Sync>(
+    rt: &R,
+    alloc: Global,
+    words: &[&str],
+    files: &[(&str, &[u8])],
+    failing: Failing<'_>,
+) -> Result<Ran, AllocError> {
     let mut list = Vec::new(alloc);
     for word in words {
         list.push(String::from_str(alloc, word)?)?;
     }
-    let mut files = Vec::new(alloc);
-    files.push(MemFile {
-        name: Text::from_str(alloc, "m.dll")?,
-        bytes: Bytes::from_slice(alloc, file)?,
-    })?;
-    let mut shelf = MemShelf::new(files, Vec::from_slice(alloc, failing.fetches)?);
+    let mut held = Vec::new(alloc);
+    for (name, bytes) in files {
+        held.push(MemFile {
+            name: Text::from_str(alloc, name)?,
+            bytes: Bytes::from_slice(alloc, bytes)?,
+        })?;
+    }
+    let mut shelf = MemShelf::new(held, Vec::from_slice(alloc, failing.fetches)?);
     let mut out = sink(alloc, failing.puts)?;
     let mut err = sink(alloc, &[])?;
     let outcome = clr(rt, alloc, &list, &mut shelf, &mut out, &mut err, &OpenGate);

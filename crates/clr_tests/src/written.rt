@@ -158,7 +158,10 @@ fn full_names(rt: HostRuntime) -> Result<(), Fail> {
         let image = image(&rt, rt.alloc(), &draft)?;
         let ran = run(&rt, rt.alloc(), &["names", "m.dll"], &image, NOTHING_FAILS)?;
         assert_eq!(rt; ran.status, Status::Done);
-        assert_eq!(rt; ran.out.strip_prefix(b"m.dll\n  <Module>\n".as_slice()), Some(lines));
+        assert_eq!(rt;
+            ran.out.strip_prefix(b"m.dll\n  <Module>\n".as_slice()),
+            Some(lines)
+        );
     }
     Ok(())
 }

@@ -1,17 +1,22 @@
-use Rattle.std.proofs.Common.{◌+◌, ◌++◌, ◌∙◌, codes, arith}
-use Rattle.clr_core.specs.Names.{type_line}
-use Rattle.clr_core.proofs.Listing.{line_more}
-use Rattle.world_build.proofs.Enclosing.{enclosing_inside, enclosing_read}
+use Rattle.std.proofs.Common.{ap, ◌∙◌, arith}
+use Rattle.std.specs.List.{flat_map}
+use Rattle.clr_core.specs.Command.{texts_of}
+use Rattle.clr_core.specs.Names.{file_text, names_text}
+use Rattle.clr_core.proofs.FileWords.{as_many, word_at}
+use Rattle.clr_core.proofs.Zipped.{each_more, zip_whole}
 use Rattle.clr_core.proofs.names.names_text.Goals as goal
 
-pub loop-row-preserved : goal.loop-row-preserved
-loop-row-preserved c = record {
-  text = line_more (c.args.file.now ++ codes "\n") (type_line c.args.tables.now) c.loop-row.row _ _ c.loop-row.invariant.text c.in_ok-push_type.ensures.line;
-  listed = c.in_ok-push_type.ensures.listed;
-}
+pub loop-k-preserved : goal.loop-k-preserved
+loop-k-preserved c =
+    let count = as_many c.args.files.now in
+    let same = c.requires.count in
+    each_more (λ file. file_text file.0 file.1) (texts_of c.args.files.now) c.args.images.now c.loop-k.k c.as_str.result.now c.index-images-k.result
+    c.loop-k.text.items c.push_file.new.text.items (omega arith) (omega arith)
+    (c.as_str.ensures.value ∙ word_at c.args.files.now c.loop-k.k c.index-files-k.result c.as_str.result.now c.loop-k-test.true c.index-files-k.is) c.index-images-k.is c.loop-k.invariant c.in_ok-push_file.ensures
 
-pub bounds-as_slice-row : goal.bounds-as_slice-row
-bounds-as_slice-row c = enclosing_inside c.args.tables.now (c.loop-row.row + 1) _ (c.as_slice.ensures ∙ c.in_ok-enclosing.ensures) (omega arith)
-
-pub push_type-requires-clause-outer : goal.push_type-requires-clause-outer
-push_type-requires-clause-outer c = enclosing_read c.args.tables.now (c.loop-row.row + 1) 0 _ (c.as_slice.ensures ∙ c.in_ok-enclosing.ensures) (omega arith)
+pub returns : goal.returns
+unfolding names_text
+returns c =
+    let count = as_many c.args.files.now in
+    c.from_vec.ensures ∙ c.loop-k.invariant
+    ∙ ap (flat_map (λ file. file_text file.0 file.1)) (zip_whole (texts_of c.args.files.now) c.args.images.now c.loop-k.k (omega arith))

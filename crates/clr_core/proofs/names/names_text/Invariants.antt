@@ -1,10 +1,8 @@
-use Rattle.std.proofs.Common.{◌≡◌, ◌++◌, codes}
-use Rattle.std.specs.List.{flat_map, range_with_len}
-use Rattle.clr_core.specs.Names.{type_line, AreListed}
+use Rattle.std.proofs.Common.{◌≡◌, take}
+use Rattle.std.specs.List.{flat_map, zip}
+use Rattle.clr_core.specs.Command.{texts_of}
+use Rattle.clr_core.specs.Names.{file_text}
 use Rattle.clr_core.proofs.names.names_text.Given as goal
 
-abbrev pub invariant-loop-row : goal.invariant-loop-row
-invariant-loop-row l = record {
-  text : l.text.items ≡ l.file ++ codes "\n" ++ flat_map (type_line l.tables) (range_with_len 1 l.row);
-  listed : AreListed l.tables l.row l.text.items l.places;
-}
+abbrev pub invariant-loop-k : goal.invariant-loop-k
+invariant-loop-k l = l.text.items ≡ flat_map (λ file. file_text file.0 file.1) (take l.k (zip (texts_of l.files) l.images))

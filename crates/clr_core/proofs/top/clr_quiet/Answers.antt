@@ -7,6 +7,9 @@ returns-clause-usage g c = ending.usage _ _ _ c.answer.ensures
 pub returns-clause-read_fault : goal.returns-clause-read_fault
 returns-clause-read_fault g c = ending.read_fault _ _ _ c.answer.ensures
 
+pub returns-clause-unread : goal.returns-clause-unread
+returns-clause-unread g c = ending.unread _ _ _ c.answer.ensures
+
 pub returns-clause-write_fault : goal.returns-clause-write_fault
 returns-clause-write_fault g c = ending.write_fault _ _ _ c.answer.ensures
 

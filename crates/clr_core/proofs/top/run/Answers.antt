@@ -1,54 +1,51 @@
-use Rattle.std.proofs.Common.{Err, sym, ap, refl, ◌∙◌}
-use Rattle.world_build.proofs.Giving.{given_fault}
-use Rattle.clr_core.proofs.Listings.{answers_fault, answers_text}
-use Rattle.world_build.proofs.Passing.{are_types_named}
+use Rattle.std.proofs.Common.{sym, ap, refl, subst, arith}
+use Rattle.std.proofs.lemmas.Result.{err_from_is_err_and}
+use Rattle.world_build.specs.Images.{bytes_of_each}
+use Rattle.clr_core.specs.Command.{texts_of}
+use Rattle.clr_core.specs.Fetched.{AreFiles}
+use Rattle.clr_core.proofs.Checking.{fetch_stopped, checks_stopped, reports}
+use Rattle.clr_core.proofs.Fetching.{files_count}
+use Rattle.clr_core.proofs.FileWords.{as_many, few_files}
 use Rattle.clr_core.proofs.top.run.Goals as goal
 
-pub returns-in-Err-Fault-clause-happened : goal.returns-in-Err-Fault-clause-happened
-returns-in-Err-Fault-clause-happened g c = (
-  record {
-    named = sym c.in-Some.ensures;
-    bytes = c.in-Ok.bytes.items;
-    told = c.in-Ok.ensures.bytes;
-    answers = answers_fault c.in-Some.file.now c.in-Ok.bytes.items _ c.in-Err-Fault.fault c.deref.ensures.value
-        (given_fault _ _ _ c.in-Err-Fault.field-0-is c.in-Err-Fault.ensures.exact)
-        ∙ ap Err (sym c.in-Err-Fault.fault-is);
-  },
-  record { content = refl; faults = refl },
-)
+pub text_of-requires-clause-count : goal.text_of-requires-clause-count
+text_of-requires-clause-count g c =
+    files_count (g.F.Shelf.files c.args.shelf.now) c.in-Some.names.now c.in_ok-files.files c.as_slice.result.now c.in_ok-files.ensures.bytes c.as_slice.ensures
 
-pub returns-in-Ok-put_all-clause-happened : goal.returns-in-Ok-put_all-clause-happened
-returns-in-Ok-put_all-clause-happened g c = (
-  c.as_slice.result.now,
-  record {
-    file = c.in-Some.file.now;
-    judged = record {
-      named = sym c.in-Some.ensures;
-      bytes = c.in-Ok.bytes.items;
-      told = c.in-Ok.ensures.bytes;
-      answers = answers_text c.in-Some.file.now c.in-Ok.bytes.items _ _ c.in-Ok-read_image.tables c.deref.ensures.value c.in-Ok-read_image.ensures.exact
-          (c.as_slice.ensures ∙ c.in-Ok-names_text.ensures);
-    };
-  },
-  c.in-Ok-put_all.ensures.text,
+pub text_of-requires-clause-few : goal.text_of-requires-clause-few
+text_of-requires-clause-few g c =
+    let few = few_files (texts_of c.args.words.now) (texts_of c.in-Some.names.now) (sym c.in-Some.ensures) in
+    let count = as_many c.in-Some.names.now in
+    omega arith
+
+pub returns-in_err-text-clause-happened : goal.returns-in_err-text-clause-happened
+returns-in_err-text-clause-happened g c =
+    let p = err_from_is_err_and c.from_residual-in_err-text.result c.from_residual-in_err-text.ensures.1 in
+    rw (p.1, p.2)
+    (checks_stopped _ (texts_of c.in-Some.names.now) (bytes_of_each c.as_slice.result.now) _ (sym c.in-Some.ensures)
+    (subst (λ bytes. AreFiles (g.F.Shelf.files c.args.shelf.now) (texts_of c.in-Some.names.now) bytes) (ap bytes_of_each (sym c.as_slice.ensures))
+    c.in_ok-files.ensures.bytes)
+    c.in_err-text.ensures.stopped (record { content = refl; faults = refl }))
+
+pub returns-in_err-files-clause-happened : goal.returns-in_err-files-clause-happened
+returns-in_err-files-clause-happened g c =
+    let p = err_from_is_err_and c.from_residual.result c.from_residual.ensures.1 in
+    rw (p.1, p.2)
+    (fetch_stopped _ (texts_of c.in-Some.names.now) _ (sym c.in-Some.ensures) c.in_err-files.ensures.stopped (record { content = refl; faults = refl }))
+
+pub returns-in-Ok-clause-happened : goal.returns-in-Ok-clause-happened
+returns-in-Ok-clause-happened g c = (
+  c.as_slice-2.result.now,
+  reports _ (texts_of c.in-Some.names.now) (bytes_of_each c.in_ok-files.files) (bytes_of_each c.as_slice.result.now) c.in_ok-text.text c.as_slice-2.result.now
+      (sym c.in-Some.ensures) c.in_ok-files.ensures.bytes (ap bytes_of_each c.as_slice.ensures) c.in_ok-text.ensures.text c.as_slice-2.ensures,
+  c.in-Ok.ensures.text,
 )
 
 pub returns-clause-happened : goal.returns-clause-happened
 returns-clause-happened g c = (
-  c.as_slice.result.now,
-  record {
-    file = c.in-Some.file.now;
-    judged = record {
-      named = sym c.in-Some.ensures;
-      bytes = c.in-Ok.bytes.items;
-      told = c.in-Ok.ensures.bytes;
-      answers = answers_text c.in-Some.file.now c.in-Ok.bytes.items _ _ c.in-Ok-read_image.tables c.deref.ensures.value c.in-Ok-read_image.ensures.exact
-          (c.as_slice.ensures ∙ c.in-Ok-names_text.ensures);
-    };
-  },
+  c.as_slice-2.result.now,
+  reports _ (texts_of c.in-Some.names.now) (bytes_of_each c.in_ok-files.files) (bytes_of_each c.as_slice.result.now) c.in_ok-text.text c.as_slice-2.result.now
+      (sym c.in-Some.ensures) c.in_ok-files.ensures.bytes (ap bytes_of_each c.as_slice.ensures) c.in_ok-text.ensures.text c.as_slice-2.ensures,
   c.in-Err.ensures.text,
   c.in-Err.ensures.cause.failed,
 )
-
-pub names_text-requires : goal.names_text-requires
-names_text-requires g c = are_types_named c.in-Ok-read_image.tables c.in-Ok-read_image.ensures.rows
