@@ -98,9 +98,11 @@ fn tables(alloc: Global, draft: &Draft) -> Result<Vec<u8>, AllocError> {
             (2, 1),
         ],
     )?;
-    // Flags, Name and Signature of each field are 0.
-    let fields = draft.fields.saturating_mul(2 + strings + blobs);
-    let end = bytes.len().saturating_add(fields);
+    // Flags and Name of each field are 0, and its signature is the blob at 1.
+    for _ in 0..draft.fields {
+        numbers(&mut bytes, &[(2, 0), (strings, 0), (blobs, 1)])?;
+    }
+    let end = bytes.len();
     zeros(&mut bytes, end)?;
     Ok(bytes)
 }
@@ -123,7 +125,14 @@ fn metadata(alloc: Global, draft: &Draft) -> Result<Vec<u8>, AllocError> {
     }
     bytes.extend_from_slice(&tables)?;
     bytes.extend_from_slice(STRINGS)?;
-    zeros(&mut bytes, at)?;
+    zeros(&mut bytes, at.saturating_sub(4))?;
+    // Fields have a blob: int32 (II.23.2.4).
+    let blobs = if draft.fields == 0 {
+        [0; 4]
+    } else {
+        [0, 2, 6, 8]
+    };
+    bytes.extend_from_slice(&blobs)?;
     Ok(bytes)
 }
 

@@ -38,8 +38,9 @@ fn fields_up_to_wide_lists(rt: HostRuntime) -> Result<(), Fail> {
         (true, 65_536),
     ] {
         let mut kit = Assembly::new(rt.alloc(), "m.dll")?;
+        let signature = kit.blob(&field(rt.alloc(), INT32)?)?;
         for _ in 0..fields {
-            kit.row(0x04, &[0, 0, 0])?;
+            kit.row(0x04, &[0, 0, signature])?;
         }
         let mut draft = kit.draft()?;
         draft.plus = plus;
