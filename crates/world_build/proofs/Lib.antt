@@ -38,6 +38,7 @@ pub mod MembersFit
 pub mod NameLemmas
 pub mod Named
 pub mod NamesCount
+pub mod NamesOfDefs
 pub mod NamesThere
 pub mod Noted
 pub mod Numbered

@@ -35,7 +35,7 @@ or_right : (a b : Bool) → b ≡ true → (a || b) ≡ true
 or_right true b e = refl
 or_right false b e = e
 
-same_text : (t u : List ℕ) → bytes_eq t u ≡ true → t ≡ u
+pub same_text : (t u : List ℕ) → bytes_eq t u ≡ true → t ≡ u
 same_text t u e = (bytes_eq-Decides t u).0 e
 
 itself : (t : List ℕ) → bytes_eq t t ≡ true
@@ -82,7 +82,7 @@ unfolding names
 names_are files = refl
 
 module _ (files : List Metadata) where
-  abbrev There : List (List ℕ) → Type 0
+  abbrev pub There : List (List ℕ) → Type 0
   There texts = list_all (is_among (names files)) texts ≡ true
 
   all_texts_there : There (all_texts files)
@@ -127,6 +127,10 @@ module _ (files : List Metadata) where
       let two = split _ _ three.0 in
       let one = split _ _ two.0 in
       record { defs = one.0; refs = one.1; fields = two.1; methods = three.1 }
+
+  -- the full names of the definitions of a file
+  pub defs_there : (k : ℕ) (m : Metadata) → slice_get files k ≡ Some m → There (map (full_name m) (rows_of m 0x02))
+  defs_there k m e = (texts_there k m (file_there k m e)).defs
 
   -- ---- their numbers
 

@@ -5,6 +5,7 @@ pub mod Cells
 pub mod CoreLibrary
 pub mod CoreTable
 pub mod Counts
+pub mod DefNames
 pub mod Definitions
 pub mod Entries
 pub mod Image

@@ -59,6 +59,7 @@ mod type_finder;
 mod type_keys;
 mod type_rows;
 mod type_texts;
+mod world_laws;
 mod world_names;
 mod worlds;
 
@@ -92,6 +93,7 @@ pub use roots::{NamedRoot, RootForm, RootsFault, with_roots};
 pub use rows::TYPE_DEF;
 pub use signature_checks::{SIG_COLUMNS, SigColumn, SigKind, check_signatures};
 pub use type_rows::{Target, TypeRows};
+pub use world_laws::definitions_called_by_their_rows;
 pub use world_names::{WorldNames, name_files};
 
 #[cfg(test)]
