@@ -1,25 +1,24 @@
 -- What comes of files that were checked: their text, or the number of the one that is refused.
-use Rattle.std.proofs.Common.{◌≡◌, ℕ, ◌+◌, ◌-◌, ◌≤◌, ◌⊎◌, inl, inr, List, [], ◌∷◌, ◌++◌, length, Option, Some, Result, Ok, Err, refl, sym, ap, ◌∙◌, subst, arith, length-append, All, get_or, IsSome, unwrap_or}
+use Rattle.std.proofs.Common.{◌≡◌, ℕ, ◌+◌, ◌-◌, ◌≤◌, ◌⊎◌, inl, inr, List, [], ◌∷◌, ◌++◌, length, Option, Some, Result, Ok, Err, refl, sym, ap, ◌∙◌, subst, arith, length-append, IsSome, unwrap_or}
 use Rattle.std.specs.Prelude.{slice_get}
 use Rattle.clr_base.specs.declared.image_fault.ImageFault.{ImageFault}
 use Rattle.clr_base.specs.Checks.{first_fault}
 use Rattle.cli_tables.specs.Metadata.{Metadata}
 use Rattle.world_build.specs.Image.{metadata_in}
-use Rattle.world_build.specs.Nesting.{AreTypesNamed}
-use Rattle.world_build.specs.Rows.{ArePassed}
-use Rattle.world_build.proofs.Passing.{are_types_named}
-use Rattle.world_build.specs.Images.{GivesImages, file_checks, images_behind, images_of, or_fault}
-use Rattle.world_build.specs.declared.images.ImagesFault.{ImagesFault}
-use Rattle.world_build.specs.declared.images.ImagesFault.TheVariants.{Image}
+use Rattle.world_build.specs.Images.{file_checks, images_behind, images_of, or_fault}
+use Rattle.world_build.specs.Build.{GivesWorld}
+use Rattle.world_build.specs.declared.building.BuildFault.{BuildFault}
+use Rattle.world_build.specs.declared.building.BuildFault.TheVariants.{Image}
+use Rattle.world_build.specs.declared.roots.RootForm.{RootForm}
 use Rattle.clr_core.specs.Command.{named_files}
 use Rattle.clr_core.specs.Ends.{Run, End, Done, Usage, ReadFault, BadImage, WriteFault, Memory, Happened, IsUntouched, StopsChecks, StopsFetch, Judged}
 use Rattle.clr_core.specs.Fetched.{AreFiles}
 use Rattle.clr_core.specs.Names.{names_of, names_text, text_or_fault}
 
 -- the fault that is answered is the one of the checks
-pub given_image : (x : ImagesFault) (number : ℕ) (fault : ImageFault) (wanted : Result (List Metadata) (ℕ × ImageFault)) → x ≡ Image number fault
-    → GivesImages (Err x) wanted → wanted ≡ Err (number, fault)
-given_image x number fault wanted is gives = subst (λ r. GivesImages (Err r) wanted) is gives
+pub given_image : (x : BuildFault) (number : ℕ) (fault : ImageFault) (files roots : List (List ℕ)) (form : RootForm) → x ≡ Image number fault
+    → GivesWorld files form roots (Err x) → images_of files ≡ Err (number, fault)
+given_image x number fault files roots form is gives = subst (λ r. GivesWorld files form roots (Err r)) is gives
 
 -- the number of a file that is refused is that of one of them
 refused_here : (here number : ℕ) (o : Result (Unit {0}) ImageFault) (behind : Result (List Metadata) (ℕ × ImageFault)) (fault : ImageFault)
@@ -54,10 +53,6 @@ files_text names files images text e is = ap (text_or_fault names) e ∙ ap (λ 
 pub files_fault : (names files : List (List ℕ)) (number : ℕ) (fault : ImageFault) → images_of files ≡ Err (number, fault)
     → names_of names files ≡ Err (number, fault)
 files_fault names files number fault e = ap (text_or_fault names) e
-
--- the names of the type definitions of files that pass are texts
-pub all_named : (images : List Metadata) → All ArePassed images → All AreTypesNamed images
-all_named images passed = λ k d within. are_types_named (get_or images k d) (passed k d within)
 
 -- the text of a run that comes to its write, of bytes that were read through a reference
 pub reports : (run : Run) (names bytes read : List (List ℕ)) (text made : List ℕ) → named_files run.words ≡ Some names → AreFiles run.shelf.before names bytes

@@ -1,8 +1,7 @@
 pub mod Checking
+pub mod Counted
 pub mod Endings
 pub mod Fetching
+pub mod FileLines
 pub mod FileWords
-pub mod FullNames
-pub mod Listed
-pub mod Listing
-pub mod Zipped
+pub mod WorldTexts

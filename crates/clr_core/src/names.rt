@@ -1,43 +1,12 @@
-//! What `names` writes of files.
-ghost use Rattle.std.specs.Prelude.{◌≡◌, ◌-◌, ◌++◌, ◌≤◌, ◌⊎◌, All, length, IfOk, OnOk};
-ghost use Rattle.cli_tables.specs.Layout.{row_count};
+//! What `names` writes of a world.
+ghost use Rattle.std.specs.Prelude.{◌≡◌, ◌++◌, IfOk, OnOk};
 ghost use Rattle.clr_core.specs.Command.{texts_of};
 ghost use Rattle.clr_core.specs.Names as spec;
-ghost use Rattle.world_build.specs.Nesting.{AreTypesNamed, enclosing_row};
+ghost use Rattle.world_build.specs.DefNames.{names_in};
 
-use cli_tables::Tables;
-use clr_base::{Bytes, Memory};
-use sqlite_items::Items;
+use clr_base::{Bytes, DefId, Memory};
 use std::alloc::Global;
-use world_build::{TYPE_DEF, enclosing_rows};
-
-/// The column Name of TypeDef (ECMA-335 II.22.37).
-const NAME: u8 = 1;
-
-/// The column Namespace of TypeDef.
-const NAMESPACE: u8 = 2;
-
-/// Where a full name stands in the text that is made.
-#[derive(Clone, Copy)]
-struct Place {
-    start: usize,
-    len: usize,
-}
-
-/// The text that a column of a row of TypeDef has the index of.
-#[tactic(auto, unfolding(crate::specs::Names::type_text))]
-fn type_text<'a>(tables: &'a Tables<'_>, row: u32, column: u8) -> &'a str
-    requires named { AreTypesNamed tables.now }
-    requires first { 1 ≤ row }
-    requires last { row ≤ row_count tables.now.tables 2 }
-    requires texts { (column ≡ 1) ⊎ (column ≡ 2) }
-    ensures { result.now ≡ spec.type_text tables.now row column }
-{
-    match tables.string(tables.cell(TYPE_DEF, row, column)) {
-        Ok(text) => text,
-        Err(_) => unreachable!(),
-    }
-}
+use type_tree::World;
 
 /// Appends a piece of text.
 fn push(text: &mut Vec<u8>, piece: &str) -> Result<(), Memory>
@@ -47,106 +16,48 @@ fn push(text: &mut Vec<u8>, piece: &str) -> Result<(), Memory>
     Ok(())
 }
 
-/// Appends a namespace and its dot, nothing where it is empty.
-fn push_qualifier(text: &mut Vec<u8>, namespace: &str) -> Result<(), Memory>
-    ensures { OnOk result (text.new.items ≡ text.old.items ++ spec.qualifier namespace.now) }
-{
-    if namespace.is_empty() {
-        return Ok(());
-    }
-    push(text, namespace)?;
-    push(text, ".")?;
-    Ok(())
-}
-
-/// Appends the full name of the type definition in a row, counted from 1. It is made once: that of the definition around it,
-/// in the row `outer`, is copied from where it stands in the text.
-fn push_full_name(
-    text: &mut Vec<u8>,
-    places: &[Place],
-    tables: &Tables<'_>,
-    row: u32,
-    outer: u32,
-) -> Result<(), Memory>
-    requires named { AreTypesNamed tables.now }
-    requires first { 1 ≤ row }
-    requires last { row ≤ row_count tables.now.tables 2 }
-    requires outer { outer ≡ enclosing_row tables.now row }
-    requires listed { spec.AreListed tables.now (row - 1) text.old.items places.now }
-    ensures { OnOk result (text.new.items ≡ text.old.items ++ spec.full_name tables.now row) }
-{
-    if outer == 0 {
-        push_qualifier(text, type_text(tables, row, NAMESPACE))?;
-    } else {
-        let place = places[outer as usize - 1];
-        text.extend_from_within(place.start..place.start + place.len)?;
-        push(text, "+")?;
-    }
-    let name = type_text(tables, row, NAME);
-    push(text, name)?;
-    Ok(())
-}
-
-/// Appends the line of the type definition in a row, counted from 1, and the place of its full name.
-#[tactic(auto, unfolding(crate::specs::Names::type_line))]
-fn push_type(
-    text: &mut Vec<u8>,
-    places: &mut Items<Place>,
-    tables: &Tables<'_>,
-    row: u32,
-    outer: u32,
-) -> Result<(), Memory>
-    requires named { AreTypesNamed tables.now }
-    requires first { 1 ≤ row }
-    requires last { row ≤ row_count tables.now.tables 2 }
-    requires outer { outer ≡ enclosing_row tables.now row }
-    requires listed { spec.AreListed tables.now (row - 1) text.old.items places.old }
-    ensures line { OnOk result (text.new.items ≡ text.old.items ++ spec.type_line tables.now row) }
-    ensures listed { OnOk result (spec.AreListed tables.now row text.new.items places.new) }
+/// Appends the line of a full name.
+#[tactic(auto, unfolding(crate::specs::Names::name_line))]
+fn push_line(text: &mut Vec<u8>, name: &str) -> Result<(), Memory>
+    ensures { OnOk result (text.new.items ≡ text.old.items ++ spec.name_line name.now) }
 {
     push(text, "  ")?;
-    let start = text.len();
-    push_full_name(text, places.as_slice(), tables, row, outer)?;
-    let len = text.len() - start;
-    places.push(Place { start, len })?;
+    push(text, name)?;
     push(text, "\n")?;
     Ok(())
 }
 
-/// Appends a file's word, then the full name of each type definition, each on a line of its own.
-#[tactic(auto, unfolding(crate::specs::Names::file_text))]
+/// Appends a file's word, then the full name of each definition of the file with a number, from 1, each on a line of its
+/// own. It passes over all definitions of the world.
+#[tactic(auto, unfolding(crate::specs::Names::file_text, world_build::specs::DefNames::names_in))]
 fn push_file(
-    alloc: Global,
     text: &mut Vec<u8>,
     file: &str,
-    tables: &Tables<'_>,
+    world: &World,
+    number: usize,
 ) -> Result<(), Memory>
-    requires { AreTypesNamed tables.now }
-    ensures { OnOk result (text.new.items ≡ text.old.items ++ spec.file_text file.now tables.now) }
+    ensures { OnOk result (text.new.items ≡ text.old.items ++ spec.file_text file.now (names_in world.now number)) }
 {
-    let count = tables.row_count(TYPE_DEF);
-    let enclosing = enclosing_rows(alloc, tables)?;
     push(text, file)?;
     push(text, "\n")?;
-    let mut places = Items::from_vec(Vec::with_capacity(alloc, count as usize)?);
-    for row in 0..count {
-        let outer = enclosing.as_slice()[row as usize + 1];
-        push_type(text, &mut places, tables, row + 1, outer)?;
+    for id in 0..world.def_count() {
+        let def = world.def(DefId(id));
+        if def.file as usize == number {
+            push_line(text, world.name(def.name))?;
+        }
     }
     Ok(())
 }
 
-/// What is written of files, of the word and the tables of each in order. Time and memory go with the text, the rows of
-/// TypeDef and NestedClass, and the names that are read.
-#[tactic(auto, unfolding(crate::specs::Names::names_text))]
-pub fn names_text(alloc: Global, files: &[String], images: &[Tables<'_>]) -> Result<Bytes, Memory>
-    requires count { length files.now ≡ length images.now }
-    requires named { All AreTypesNamed images.now }
-    ensures { IfOk result (λ text. text ≡ spec.names_text (texts_of files.now) images.now) }
+/// What is written of a world, by the words of its files. Time goes with the text and with the definitions, which are
+/// passed over for each file; memory with the text.
+#[tactic(auto, unfolding(crate::specs::Names::world_text))]
+pub fn names_text(alloc: Global, files: &[String], world: &World) -> Result<Bytes, Memory>
+    ensures { IfOk result (λ text. text ≡ spec.world_text (texts_of files.now) world.now) }
 {
     let mut text = Vec::new(alloc);
     for k in 0..files.len() {
-        push_file(alloc, &mut text, files[k].as_str(), &images[k])?;
+        push_file(&mut text, files[k].as_str(), world, k + 1)?;
     }
     Ok(Bytes::from_vec(text))
 }

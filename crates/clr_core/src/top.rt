@@ -18,23 +18,24 @@ use crate::status::{Outcome, Status, Stop};
 use clr_base::{Bytes, Gate, Shelf, Sink, put_all};
 use std::alloc::Global;
 use std::thread::Threads;
-use world_build::{ImagesFault, read_images};
+use world_build::{BuildFault, RootForm, build};
 
-/// What is written of the files that were fetched. They are all checked first, in order.
+/// What is written of the files that were fetched. They are all checked first, in order, and become a world.
 fn text_of<'a>(alloc: Global, names: &'a [String], files: &[Vec<u8>]) -> Result<Bytes, Stop<'a>>
     requires count { length files.now ≡ length names.now }
     requires few { length names.now ≤ 16 }
     ensures text { IfOk result (λ text. names_of (texts_of names.now) (bytes_of_each files.now) ≡ Ok text) }
     ensures stopped { IfErr result (λ stop. StopsChecks (texts_of names.now) (bytes_of_each files.now) (end_of_stop stop)) }
 {
-    let images = match read_images(alloc, files) {
-        Ok(images) => images,
-        Err(ImagesFault::Image(number, fault)) => {
+    let world = match build(alloc, files, RootForm::Types, &[]) {
+        Ok(world) => world,
+        Err(BuildFault::Image(number, fault)) => {
             return Err(Stop::BadImage(names[number as usize - 1].as_str(), fault));
         }
-        Err(ImagesFault::Memory) => return Err(Stop::Memory),
+        Err(BuildFault::NoName(_)) => unreachable!(),
+        Err(BuildFault::Memory) => return Err(Stop::Memory),
     };
-    match names_text(alloc, names, images.as_slice()) {
+    match names_text(alloc, names, &world) {
         Ok(text) => Ok(text),
         Err(_) => Err(Stop::Memory),
     }

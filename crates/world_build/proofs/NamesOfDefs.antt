@@ -1,5 +1,5 @@
 -- The definitions of a file in the world of files: those of its TypeDef rows, in order, each called by its full name.
-use Rattle.std.proofs.Common.{◌≡◌, ◌≢◌, ◌==◌, if◌then◌else◌, ℕ, zero, suc, ◌+◌, ◌-◌, ◌<◌, ◌≤◌, ◌||◌, Bool, true, false, cond, List, [], ◌∷◌, ◌++◌, map, filter, length, Option, Some, refl, sym, ap, ap₂, ◌∙◌, subst, arith, slice_get, get_or, unwrap_or}
+use Rattle.std.proofs.Common.{◌≡◌, ◌≢◌, ◌==◌, ℕ, zero, suc, ◌+◌, ◌-◌, ◌<◌, ◌≤◌, ◌||◌, Bool, true, false, cond, List, [], ◌∷◌, ◌++◌, map, filter, length, Option, Some, refl, sym, ap, ap₂, ◌∙◌, subst, arith, slice_get, get_or, unwrap_or}
 use Rattle.std.specs.Prelude.{not}
 use Rattle.std.specs.List.{flat_map, enumerate_from, range_with_len, list_all, list_any, position_or_len}
 use Rattle.std.specs.Str.{bytes_eq}
@@ -24,7 +24,7 @@ use Rattle.world_build.specs.Trees.{empty_name}
 use Rattle.world_build.specs.TypeNames.{full_name}
 use Rattle.world_build.specs.World.{reader, file_defs, tables_in, world}
 use Rattle.world_build.specs.WorldNames.{names, name_id, file_names}
-use Rattle.world_build.proofs.NamesThere.{is_among, same_text, There, defs_there}
+use Rattle.world_build.proofs.NamesThere.{is_among, same_text, defs_there}
 
 -- ---- which definitions are a file's
 

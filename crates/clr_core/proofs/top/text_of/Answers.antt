@@ -1,24 +1,26 @@
-use Rattle.std.proofs.Common.{◌<◌, ◌∙◌, ℕ, ◌-◌, List, All, Some, Err, get_or, sym, ap, subst, arith, length}
+use Rattle.std.proofs.Common.{◌<◌, ◌∙◌, ℕ, ◌-◌, List, [], Some, Err, get_or, sym, ap, arith, length}
 use Rattle.std.proofs.lemmas.List.{length-map}
 use Rattle.clr_base.specs.declared.image_fault.ImageFault.{ImageFault}
-use Rattle.cli_tables.specs.Metadata.{Metadata}
+use Rattle.world_build.specs.declared.roots.RootForm.TheVariants.{Types}
 use Rattle.world_build.specs.Images.{bytes_of_each}
-use Rattle.world_build.specs.Nesting.{AreTypesNamed}
 use Rattle.clr_core.specs.Command.{texts_of}
-use Rattle.clr_core.proofs.Checking.{all_named, given_image, number_within, files_fault}
-use Rattle.clr_core.proofs.FileWords.{word_found}
+use Rattle.clr_core.proofs.Checking.{given_image, number_within, files_fault}
+use Rattle.clr_core.proofs.FileWords.{as_many, word_found}
+use Rattle.clr_core.proofs.WorldTexts.{none_unnamed, world_written}
 use Rattle.clr_core.proofs.top.text_of.Goals as goal
 
 pub overflow_sub-number : goal.overflow_sub-number
 overflow_sub-number c =
+    let bytes = bytes_of_each c.args.files.now in
     let within =
-    number_within (bytes_of_each c.args.files.now) c.in-Err-Image.number c.in-Err-Image.fault (given_image _ _ _ _ c.in-Err-Image.field-0-is c.in-Err-Image.ensures.exact) in
+    number_within bytes c.in-Err-Image.number c.in-Err-Image.fault (given_image _ _ _ bytes [] Types c.in-Err-Image.field-0-is c.in-Err-Image.ensures) in
     omega (arith, within.0, c.in-Err-Image.number-is)
 
 pub bounds-names-number : goal.bounds-names-number
 bounds-names-number c =
+    let bytes = bytes_of_each c.args.files.now in
     let within =
-    number_within (bytes_of_each c.args.files.now) c.in-Err-Image.number c.in-Err-Image.fault (given_image _ _ _ _ c.in-Err-Image.field-0-is c.in-Err-Image.ensures.exact) in
+    number_within bytes c.in-Err-Image.number c.in-Err-Image.fault (given_image _ _ _ bytes [] Types c.in-Err-Image.field-0-is c.in-Err-Image.ensures) in
     let count = length-map c.args.files.now (λ file. file.items) in
     let same = c.requires.count in
     omega (arith, within.0, within.1, c.in-Err-Image.number-is)
@@ -27,19 +29,16 @@ pub returns-in-Err-Image-clause-stopped : goal.returns-in-Err-Image-clause-stopp
 returns-in-Err-Image-clause-stopped c =
     let number = c.in-Err-Image.number in
     let names = c.args.names.now in
-    let fails = given_image _ _ _ _ c.in-Err-Image.field-0-is c.in-Err-Image.ensures.exact in
-    let within = number_within (bytes_of_each c.args.files.now) number c.in-Err-Image.fault fails in
+    let bytes = bytes_of_each c.args.files.now in
+    let fails = given_image _ _ _ bytes [] Types c.in-Err-Image.field-0-is c.in-Err-Image.ensures in
+    let within = number_within bytes number c.in-Err-Image.fault fails in
     let count = length-map c.args.files.now (λ file. file.items) in
     let same = c.requires.count in
     let inside : number - 1 < length names = omega (arith, within.0, within.1) in (
       number,
-      files_fault (texts_of names) (bytes_of_each c.args.files.now) number c.in-Err-Image.fault fails
+      files_fault (texts_of names) bytes number c.in-Err-Image.fault fails
           ∙ ap (λ (f : ImageFault). Err (number, f)) (sym c.in-Err-Image.fault-is),
       word_found names (number - 1) c.index-names-number.result inside
           (c.index-names-number.is ∙ ap (λ (n : ℕ). get_or names (n - 1) c.index-names-number.result) c.in-Err-Image.number-is)
           ∙ ap (λ (word : List ℕ). Some word) (sym c.as_str.ensures.value),
     )
-
-pub names_text-requires-clause-named : goal.names_text-requires-clause-named
-names_text-requires-clause-named c =
-    subst (λ (l : List Metadata). All AreTypesNamed l) (sym c.as_slice.ensures) (all_named c.in-Ok.images c.in-Ok.ensures.rows)
