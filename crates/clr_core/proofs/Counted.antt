@@ -8,13 +8,13 @@ use Rattle.std.proofs.lemmas.List.FromFn.{length-enumerate_from}
 counted_next : {A : Type 0} (n : ℕ) (xs : List A) (k : ℕ) (x : A) → k < length xs → x ≡ get_or xs k x
     → take (suc k) (enumerate_from n xs) ≡ take k (enumerate_from n xs) ++ (n + k, x) ∷ []
 counted_next n [] k x within is = absurd (omega arith)
-counted_next {A} n (a ∷ as) zero x within is =
+counted_next {A} n (a ∷ rest) zero x within is =
     let here : n ≡ n + 0 = omega arith in
     ap (λ (v : A). (n, v) ∷ []) (sym is) ∙ ap (λ (i : ℕ). (i, x) ∷ []) here
-counted_next {A} n (a ∷ as) (suc k) x within is =
+counted_next {A} n (a ∷ rest) (suc k) x within is =
     let further : n + 1 + k ≡ n + suc k = omega arith in
     ap (λ (l : List (ℕ × A)). (n, a) ∷ l)
-    (counted_next (n + 1) as k x (omega arith) is ∙ ap (λ (i : ℕ). take k (enumerate_from (n + 1) as) ++ (i, x) ∷ []) further)
+    (counted_next (n + 1) rest k x (omega arith) is ∙ ap (λ (i : ℕ). take k (enumerate_from (n + 1) rest) ++ (i, x) ∷ []) further)
 
 module _ {A : Type 0} (f : (ℕ × A) → List ℕ) (xs : List A) where
   -- what is made of each, in order: the next is appended

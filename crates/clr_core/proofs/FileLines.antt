@@ -1,5 +1,5 @@
 -- The lines of a file: what one definition of the world more adds.
-use Rattle.std.proofs.Common.{◌≡◌, ◌==◌, ℕ, zero, suc, ◌+◌, ◌≤◌, Bool, true, false, List, [], ◌∷◌, ◌++◌, map, filter, take, length, Some, refl, sym, ap, ◌∙◌, append_assoc, arith, slice_get}
+use Rattle.std.proofs.Common.{◌≡◌, ◌==◌, ℕ, zero, suc, ◌+◌, ◌≤◌, Bool, true, false, List, [], ◌∷◌, ◌++◌, map, filter, take, length, Option, Some, unwrap_or, refl, sym, ap, ◌∙◌, append_assoc, arith, slice_get}
 use Rattle.std.specs.List.{flat_map}
 use Rattle.std.proofs.lemmas.List.{append-nil, map-append, take_all}
 use Rattle.std.proofs.lemmas.List.Concat.{flat_map-append}
@@ -37,13 +37,17 @@ module _ (w : Facts) (number : ℕ) where
   no_line : (d : Def) → (d.file == number) ≡ false → lines_of w number (d ∷ []) ≡ []
   no_line d is = rw is refl
 
+  called : (name : List ℕ) (d : Def) → slice_get w.names d.name.0 ≡ Some name → name ≡ name_text w d.name
+  unfolding name_text
+  called name d is = sym (ap (λ (o : Option (List ℕ)). unwrap_or o []) is)
+
   -- a definition of the file adds its line
-  pub line_more : (head old new name : List ℕ) (k : ℕ) (d : Def) → slice_get w.defs k ≡ Some d → (d.file == number) ≡ true → name ≡ name_text w d.name
+  pub line_more : (head old new name : List ℕ) (k : ℕ) (d : Def) → slice_get w.defs k ≡ Some d → (d.file == number) ≡ true → slice_get w.names d.name.0 ≡ Some name
       → old ≡ head ++ lines_of w number (take k w.defs) → new ≡ old ++ name_line name → new ≡ head ++ lines_of w number (take (k + 1) w.defs)
-  line_more head old new name k d there is called before e =
+  line_more head old new name k d there is named before e =
       e ∙ ap (λ (xs : List ℕ). xs ++ name_line name) before
       ∙ append_assoc head (lines_of w number (take k w.defs)) (name_line name)
-      ∙ ap (λ (xs : List ℕ). head ++ lines_of w number (take k w.defs) ++ xs) (ap name_line called ∙ sym (its_line d is))
+      ∙ ap (λ (xs : List ℕ). head ++ (lines_of w number (take k w.defs) ++ xs)) (ap name_line (called name d named) ∙ sym (its_line d is))
       ∙ ap (λ (xs : List ℕ). head ++ xs) (sym (one_more w.defs k d there))
 
   -- one of another file adds nothing

@@ -34,11 +34,20 @@ returns-in-Err-Image-clause-stopped c =
     let within = number_within bytes number c.in-Err-Image.fault fails in
     let count = length-map c.args.files.now (λ file. file.items) in
     let same = c.requires.count in
-    let inside : number - 1 < length names = omega (arith, within.0, within.1) in (
+    let inside : number - 1 < length names = omega (arith, within.0, within.1) in
+    rw c.in-Err-Image.field-0-is
+    (
       number,
-      files_fault (texts_of names) bytes number c.in-Err-Image.fault fails
-          ∙ ap (λ (f : ImageFault). Err (number, f)) (sym c.in-Err-Image.fault-is),
+      files_fault (texts_of names) bytes number c.in-Err-Image.fault fails,
       word_found names (number - 1) c.index-names-number.result inside
           (c.index-names-number.is ∙ ap (λ (n : ℕ). get_or names (n - 1) c.index-names-number.result) c.in-Err-Image.number-is)
           ∙ ap (λ (word : List ℕ). Some word) (sym c.as_str.ensures.value),
     )
+
+pub returns-in-Ok-names_text-clause-text : goal.returns-in-Ok-names_text-clause-text
+returns-in-Ok-names_text-clause-text c =
+    let count = length-map c.args.files.now (λ file. file.items) in
+    let words = as_many c.args.names.now in
+    let made = c.in-Ok.ensures in
+    world_written (bytes_of_each c.args.files.now) (texts_of c.args.names.now) [] Types c.in-Ok.world c.in-Ok-names_text.text
+    (omega (arith, count, words, c.requires.count)) made.0 made.1 c.in-Ok-names_text.ensures
