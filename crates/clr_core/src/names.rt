@@ -30,12 +30,7 @@ fn push_line(text: &mut Vec<u8>, name: &str) -> Result<(), Memory>
 /// Appends a file's word, then the full name of each definition of the file with a number, from 1, each on a line of its
 /// own. It passes over all definitions of the world.
 #[tactic(auto, unfolding(crate::specs::Names::file_text, world_build::specs::DefNames::names_in))]
-fn push_file(
-    text: &mut Vec<u8>,
-    file: &str,
-    world: &World,
-    number: usize,
-) -> Result<(), Memory>
+fn push_file(text: &mut Vec<u8>, file: &str, world: &World, number: usize) -> Result<(), Memory>
     ensures { OnOk result (text.new.items ≡ text.old.items ++ spec.file_text file.now (names_in world.now number)) }
 {
     push(text, file)?;

@@ -1,12 +1,11 @@
-use Rattle.std.proofs.Common.{◌<◌, ◌∙◌, ℕ, ◌-◌, List, [], Some, Err, get_or, sym, ap, arith, length}
+use Rattle.std.proofs.Common.{◌<◌, ◌∙◌, ℕ, ◌-◌, List, [], Some, get_or, sym, ap, arith, length}
 use Rattle.std.proofs.lemmas.List.{length-map}
-use Rattle.clr_base.specs.declared.image_fault.ImageFault.{ImageFault}
 use Rattle.world_build.specs.declared.roots.RootForm.TheVariants.{Types}
 use Rattle.world_build.specs.Images.{bytes_of_each}
 use Rattle.clr_core.specs.Command.{texts_of}
 use Rattle.clr_core.proofs.Checking.{given_image, number_within, files_fault}
 use Rattle.clr_core.proofs.FileWords.{as_many, word_found}
-use Rattle.clr_core.proofs.WorldTexts.{none_unnamed, world_written}
+use Rattle.clr_core.proofs.WorldTexts.{world_written}
 use Rattle.clr_core.proofs.top.text_of.Goals as goal
 
 pub overflow_sub-number : goal.overflow_sub-number
@@ -35,8 +34,7 @@ returns-in-Err-Image-clause-stopped c =
     let count = length-map c.args.files.now (λ file. file.items) in
     let same = c.requires.count in
     let inside : number - 1 < length names = omega (arith, within.0, within.1) in
-    rw c.in-Err-Image.field-0-is
-    (
+    rw c.in-Err-Image.field-0-is (
       number,
       files_fault (texts_of names) bytes number c.in-Err-Image.fault fails,
       word_found names (number - 1) c.index-names-number.result inside
