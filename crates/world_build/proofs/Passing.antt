@@ -11,6 +11,7 @@ use Rattle.cli_tables.specs.Layout.{cell, row_count}
 use Rattle.cli_tables.specs.Metadata.{Metadata}
 use Rattle.cli_tables.specs.Schema.{columns}
 use Rattle.std.specs.Str.{is_utf8}
+use Rattle.world_build.specs.Cells.{text, text_or_none}
 use Rattle.world_build.specs.Nesting.{AreTypesNamed}
 use Rattle.world_build.specs.Rows.{checked_tables, is_text, text_checks, cell_checks, column_checks, rule_checks, row_checks, table_checks, rows_checks, ArePassed}
 
@@ -90,13 +91,8 @@ pub type_defs_pass : (m : Metadata) → ArePassed m → first_fault (table_check
 unfolding rows_checks
 type_defs_pass m all = passed_at (length checked_tables) 1 (λ k. table_checks m (slice_index checked_tables k)) (omega arith) all
 
--- the columns Name and Namespace are there
-pub text_column : (column : ℕ) → (column ≡ 1) ⊎ (column ≡ 2) → column < length (columns 2)
-unfolding columns
-text_column column which = elim which [ inl one ↦ omega arith | inr two ↦ omega arith ]
-
 -- the names and namespaces of type definitions are texts
-pub are_types_named : (m : Metadata) → ArePassed m → AreTypesNamed m
+are_types_named : (m : Metadata) → ArePassed m → AreTypesNamed m
 unfolding columns cell_checks
 are_types_named m all row column first last which =
     let here : (c : ℕ) → c < length (columns 2) → first_fault (cell_checks m 2 row c) ≡ Ok (tt {0}) =
@@ -106,14 +102,16 @@ are_types_named m all row column first last which =
       | inr two ↦ subst (λ c. is_text (text_at m.strings (cell m.tables 2 row c)) ≡ true) (sym two) (text_passes _ _ _ (here 2 (omega arith)))
     ]
 
-good_bytes : (bytes : List ℕ) (good : Bool) (kind : FaultKind) → good ≡ true → cond good (Ok bytes) (Err BadText) ≡ Err kind → ⊥
-good_bytes bytes true kind good e = cc
-good_bytes bytes false kind good e = cc
+has_text : (o : Option (List ℕ)) → is_text o ≡ true → o ≡ Some (text_or_none o)
+has_text None good = cc
+has_text (Some t) good = rw good refl
 
--- a text is read without a fault
-pub is_read : (bytes : Option (List ℕ)) (kind : FaultKind) → is_text bytes ≡ true → text_of bytes ≡ Err kind → ⊥
-is_read None kind good e = cc
-is_read (Some bytes) kind good e = good_bytes bytes (is_utf8 bytes) kind good e
+-- so each is the text that a row is said to have
+pub type_text : (m : Metadata) (row column : ℕ) → ArePassed m → 1 ≤ row → row ≤ row_count m.tables 2 → (column ≡ 1) ⊎ (column ≡ 2)
+    → text_at m.strings (cell m.tables 2 row column) ≡ Some (text m 2 row column)
+unfolding text
+type_text m row column all first last which =
+    has_text (text_at m.strings (cell m.tables 2 row column)) (are_types_named m all row column first last which)
 
 -- the first row that fails
 pub table_failed : (m : Metadata) (table k : ℕ) (fault : ImageFault) → k < row_count m.tables table

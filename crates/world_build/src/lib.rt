@@ -81,7 +81,6 @@ pub use member_index::MemberIndex;
 pub use member_table::{MemberTable, Run};
 pub use member_tables::all_members;
 pub use names::Names;
-pub use nesting::enclosing_rows;
 pub use open_method::{Open, open_of, same_open};
 pub use reader::Reader;
 pub use ref_names::name_of_ref;
@@ -90,10 +89,9 @@ pub use resolution::DefPlace;
 pub use resolve::resolve_files;
 pub use root_laws::{no_world_of_an_unnamed_word, one_root_of_a_word, one_world_of_roots};
 pub use roots::{NamedRoot, RootForm, RootsFault, with_roots};
-pub use rows::TYPE_DEF;
 pub use signature_checks::{SIG_COLUMNS, SigColumn, SigKind, check_signatures};
 pub use type_rows::{Target, TypeRows};
-pub use world_laws::definitions_called_by_their_rows;
+pub use world_laws::{definitions_called_by_their_rows, type_names_are_texts};
 pub use world_names::{WorldNames, name_files};
 
 #[cfg(test)]
