@@ -8,7 +8,7 @@ use Rattle.world_build.specs.declared.roots.RootForm.{RootForm}
 use Rattle.world_build.specs.Build.{AreTaken}
 use Rattle.world_build.specs.DefNames.{names_in}
 use Rattle.world_build.specs.Image.{metadata_in}
-use Rattle.world_build.specs.Roots.{HasRoots, IsFirstUnnamed}
+use Rattle.world_build.specs.Roots.{HasRoots}
 use Rattle.world_build.specs.World.{tables_in, world}
 use Rattle.world_build.proofs.NamesOfDefs.{names_of_file}
 use Rattle.clr_core.specs.Names.{file_text, type_names, names_text, names_of, world_text}
@@ -42,11 +42,3 @@ pub world_written : (files words roots : List (List ℕ)) (form : RootForm) (w :
 world_written files words roots form w text same taken has is =
     files_text words files (tables_in files) text taken
     (is ∙ text_of_world files words w same (λ k m there. names_of_file files k m there w has.named has.world))
-
--- no word is one that names nothing
-no_word : (word : List ℕ) (before behind : List (List ℕ)) → [] ≡ before ++ word ∷ behind → ⊥
-no_word word [] behind e = cc
-no_word word (x ∷ before) behind e = cc
-
-pub none_unnamed : (w : Facts) (form : RootForm) (word : List ℕ) → IsFirstUnnamed w form [] word → ⊥
-none_unnamed w form word first = no_word word first.before first.behind first.stands

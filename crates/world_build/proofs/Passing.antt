@@ -4,13 +4,11 @@ use Rattle.std.proofs.lemmas.Bool.{ne_eqb}
 use Rattle.clr_base.specs.declared.image_fault.ImageFault.{ImageFault}
 use Rattle.clr_base.specs.Checks.{Check, check, first_fault, after, each}
 use Rattle.clr_base.specs.declared.image_fault.FaultKind.{FaultKind}
-use Rattle.clr_base.specs.declared.image_fault.FaultKind.TheVariants.{BadText}
 use Rattle.clr_base.proofs.Checks.{first_fault_append, each_failed}
-use Rattle.cli_tables.specs.Heaps.{text_at, text_of}
+use Rattle.cli_tables.specs.Heaps.{text_at}
 use Rattle.cli_tables.specs.Layout.{cell, row_count}
 use Rattle.cli_tables.specs.Metadata.{Metadata}
 use Rattle.cli_tables.specs.Schema.{columns}
-use Rattle.std.specs.Str.{is_utf8}
 use Rattle.world_build.specs.Cells.{text, text_or_none}
 use Rattle.world_build.specs.Nesting.{AreTypesNamed}
 use Rattle.world_build.specs.Rows.{checked_tables, is_text, text_checks, cell_checks, column_checks, rule_checks, row_checks, table_checks, rows_checks, ArePassed}
