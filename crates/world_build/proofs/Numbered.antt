@@ -1,13 +1,11 @@
 -- Texts that get their numbers row by row.
-use Rattle.std.proofs.Common.{◌≡◌, ℕ, ◌+◌, ◌≤◌, Bool, true, false, cond, List, [], ◌∷◌, ◌++◌, map, length, Option, None, Some, refl, sym, ap, subst, ◌∙◌, arith}
-use Rattle.std.specs.BTreeMap.{BTreeMap, get, is_at}
-use Rattle.std.specs.Cmp.{Equal-is}
+use Rattle.std.proofs.Common.{◌≡◌, ℕ, ◌+◌, ◌≤◌, Bool, true, false, cond, List, [], ◌∷◌, ◌++◌, map, length, Option, None, Some, eqb, refl, sym, ap, subst, ◌∙◌, arith}
 use Rattle.std.specs.List.{range_with_len}
 use Rattle.std.specs.Option.{IfSome}
-use Rattle.std.specs.Ordering.{nat_cmp, is_eq}
 use Rattle.std.specs.Str.{bytes_eq}
+use Rattle.indexmap.specs.IndexMap.{IndexMap, get}
+use Rattle.std.proofs.lemmas.Bool.{eqb-true}
 use Rattle.std.proofs.lemmas.List.FromFn.{length-map-range_with_len, map-range_with_len_more}
-use Rattle.std.proofs.lemmas.Map.Lookups.{exact_unsigned}
 use Rattle.clr_base.specs.declared.ids.NameId.{NameId}
 use Rattle.cli_tables.specs.Metadata.{Metadata}
 use Rattle.world_build.specs.Names.{with_one, with_all}
@@ -48,11 +46,8 @@ names_few f count n old names is few =
 
 -- ---- numbers that are noted
 
-abbrev AreNotedAt : Metadata → List (List ℕ) → BTreeMap ℕ NameId → ℕ → Type 0
-AreNotedAt m names noted index = IfSome (get nat_cmp noted index) (λ id. IsNumbered names (text_by m index) id)
-
-tied : (x y : ℕ) → is_eq (nat_cmp x y) ≡ true → x ≡ y
-tied x y e = exact_unsigned x y ((Equal-is (nat_cmp x y)).0 e)
+abbrev AreNotedAt : {S : Type 0} → Metadata → List (List ℕ) → IndexMap ℕ NameId S → ℕ → Type 0
+AreNotedAt m names noted index = IfSome (get eqb noted index) (λ id. IsNumbered names (text_by m index) id)
 
 chosen : (b : Bool) (P : NameId → Type 0) (id : NameId) (o : Option NameId) → (b ≡ true → P id) → (b ≡ false → IfSome o P) → IfSome (cond b (Some id) o) P
 chosen true P id o here other = here refl
@@ -64,16 +59,16 @@ numbered_on names t u None before = before
 numbered_on names t u (Some id) before = numbered_more names t u id before
 
 -- no index yet
-pub noted_none : (m : Metadata) (names : List (List ℕ)) (noted : BTreeMap ℕ NameId) → noted.entries ≡ [] → AreNoted m names noted
+pub noted_none : {S : Type 0} (m : Metadata) (names : List (List ℕ)) (noted : IndexMap ℕ NameId S) → noted.entries ≡ [] → AreNoted m names noted
 noted_none m names noted empty = record { each = λ index. rw empty tt }
 
 -- one more index
-pub noted_more : (m : Metadata) (names new : List (List ℕ)) (index : ℕ) (t : List ℕ) (id : NameId) (noted more : BTreeMap ℕ NameId) → AreNoted m names noted
+pub noted_more : {S : Type 0} (m : Metadata) (names new : List (List ℕ)) (index : ℕ) (t : List ℕ) (id : NameId) (noted more : IndexMap ℕ NameId S) → AreNoted m names noted
     → t ≡ text_by m index → new ≡ with_one bytes_eq names t → id ≡ id_in names t
-    → ((q : ℕ) → get nat_cmp more q ≡ cond (is_at (nat_cmp index) q) (Some id) (get nat_cmp noted q)) → AreNoted m new more
+    → ((q : ℕ) → get eqb more q ≡ cond (eqb index q) (Some id) (get eqb noted q)) → AreNoted m new more
 noted_more m names new index t id noted more before text_is e is updates =
-    let same : (q : ℕ) → AreNotedAt m names noted q → IfSome (get nat_cmp more q) (λ id. IsNumbered (with_one bytes_eq names t) (text_by m q) id) =
-    λ q old. rw (updates q) (chosen (is_at (nat_cmp index) q) (λ id. IsNumbered (with_one bytes_eq names t) (text_by m q) id) id (get nat_cmp noted q)
-    (λ tie. subst (λ (text : List ℕ). IsNumbered (with_one bytes_eq names t) text id) (text_is ∙ ap (text_by m) (tied index q tie)) (numbered_one names t id is))
-    (λ apart. numbered_on names (text_by m q) t (get nat_cmp noted q) old)) in
-    record { each = λ q. subst (λ (ns : List (List ℕ)). IfSome (get nat_cmp more q) (λ id. IsNumbered ns (text_by m q) id)) (sym e) (same q (before.each q)) }
+    let same : (q : ℕ) → AreNotedAt m names noted q → IfSome (get eqb more q) (λ id. IsNumbered (with_one bytes_eq names t) (text_by m q) id) =
+    λ q old. rw (updates q) (chosen (eqb index q) (λ id. IsNumbered (with_one bytes_eq names t) (text_by m q) id) id (get eqb noted q)
+    (λ tie. subst (λ (text : List ℕ). IsNumbered (with_one bytes_eq names t) text id) (text_is ∙ ap (text_by m) (eqb-true index q tie)) (numbered_one names t id is))
+    (λ apart. numbered_on names (text_by m q) t (get eqb noted q) old)) in
+    record { each = λ q. subst (λ (ns : List (List ℕ)). IfSome (get eqb more q) (λ id. IsNumbered ns (text_by m q) id)) (sym e) (same q (before.each q)) }

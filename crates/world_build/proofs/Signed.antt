@@ -1,7 +1,7 @@
 -- The checks of signatures, column by column.
 use Rattle.std.proofs.Common.{◌≡◌, ℕ, zero, suc, ◌+◌, ◌<◌, Bool, List, [], ◌++◌, ◌∷◌, length, take, drop, Ok, Err, sym, ap, ap₂, ◌∙◌, arith, get_or}
-use Rattle.std.specs.BTreeMap.{BTreeMap}
 use Rattle.std.specs.List.{flat_map}
+use Rattle.indexmap.specs.IndexMap.{IndexMap}
 use Rattle.std.proofs.lemmas.Grind.{flat_map-append}
 use Rattle.std.proofs.lemmas.List.{drop_more, take_more, take-append-drop}
 use Rattle.clr_base.specs.declared.image_fault.ImageFault.{ImageFault}
@@ -48,7 +48,7 @@ columns_are_there (suc (suc (suc (suc (suc (suc k)))))) d within = absurd (omega
 
 -- ---- notes
 
-pub no_notes : {V : Type 0} (of : ℕ → V) (noted : BTreeMap ℕ V) → noted.entries ≡ [] → AreNotes of noted
+pub no_notes : {V S : Type 0} (of : ℕ → V) (noted : IndexMap ℕ V S) → noted.entries ≡ [] → AreNotes of noted
 no_notes of noted empty = record { each = λ index. rw empty tt }
 
 -- ---- rows

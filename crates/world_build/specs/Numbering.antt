@@ -1,10 +1,9 @@
 -- Texts that get their numbers while more of them come.
-use Rattle.std.specs.Prelude.{◌≡◌, ℕ, ◌+◌, ◌≤◌, ◌<◌, List, [], ◌∷◌, map, length, true, Option, None, Some}
+use Rattle.std.specs.Prelude.{◌≡◌, ℕ, ◌+◌, ◌≤◌, ◌<◌, List, [], ◌∷◌, map, length, true, Option, None, Some, nat_eq}
 use Rattle.std.specs.List.{list_any, enumerate_from, range_with_len}
 use Rattle.std.specs.Option.{IfSome}
-use Rattle.std.specs.Ordering.{nat_cmp}
 use Rattle.std.specs.Str.{bytes_eq}
-use Rattle.std.specs.BTreeMap.{BTreeMap, get}
+use Rattle.indexmap.specs.IndexMap.{IndexMap, get}
 use Rattle.clr_base.specs.declared.ids.NameId.{NameId}
 use Rattle.cli_tables.specs.Heaps.{text_at}
 use Rattle.cli_tables.specs.Metadata.{Metadata}
@@ -37,8 +36,8 @@ abbrev pub text_by : Metadata → ℕ → List ℕ
 text_by m index = text_or_none (text_at m.strings index)
 
 -- indexes of `#Strings` are noted with the numbers that their texts have among names
-pub record AreNoted (m : Metadata) (names : List (List ℕ)) (noted : BTreeMap ℕ NameId) : Type 0 where
-  pub each : (index : ℕ) → IfSome (get nat_cmp noted index) (λ id. IsNumbered names (text_by m index) id)
+pub record AreNoted {S : Type 0} (m : Metadata) (names : List (List ℕ)) (noted : IndexMap ℕ NameId S) : Type 0 where
+  pub each : (index : ℕ) → IfSome (get nat_eq noted index) (λ id. IsNumbered names (text_by m index) id)
 
 -- the texts of a column, row by row
 abbrev pub column_texts : Metadata → ℕ → ℕ → List (List ℕ)

@@ -13,9 +13,9 @@ use crate::trees::{row_counts, value_or};
 use cli_sigs::{SigTyList, read_locals};
 use cli_tables::Tables;
 use clr_base::{FaultKind, Memory, check};
+use indexmap::IndexMap;
 use sqlite_items::Items;
 use std::alloc::Global;
-use std::collections::BTreeMap;
 
 /// The most that tokens can number (ECMA-335 III.1.9: a token has 24 bits for a row).
 const MOST: u32 = 16_777_215;
@@ -68,7 +68,7 @@ fn locals_by(alloc: Global, tables: &Tables<'_>, index: u32) -> Result<SigTyList
 fn local_count(
     alloc: Global,
     tables: &Tables<'_>,
-    noted: &mut BTreeMap<u32, u32>,
+    noted: &mut IndexMap<u32, u32>,
     index: u32,
 ) -> Result<u32, Memory>
     requires { AreNotes (spec.local_count tables.now) noted.old }
@@ -89,7 +89,7 @@ fn local_count(
 fn all_locals(alloc: Global, tables: &Tables<'_>) -> Result<u32, Memory>
     ensures { IfOk result (λ count. count ≡ spec.all_locals tables.now) }
 {
-    let mut noted = BTreeMap::new(alloc);
+    let mut noted = IndexMap::new(alloc);
     let mut total = 0;
     for row in 0..tables.row_count(STAND_ALONE_SIG) {
         let index = tables.cell(STAND_ALONE_SIG, row + 1, 0);

@@ -15,8 +15,8 @@ use cli_sigs::{
 };
 use cli_tables::Tables;
 use clr_base::{FaultKind, Memory, check};
+use indexmap::IndexMap;
 use std::alloc::Global;
-use std::collections::BTreeMap;
 
 /// The code that a field's signature begins with (II.23.2.4).
 const FIELD_CODE: u8 = 0x06;
@@ -145,7 +145,7 @@ fn is_signature_by(
     alloc: Global,
     tables: &Tables<'_>,
     kind: SigKind,
-    noted: &mut BTreeMap<u32, bool>,
+    noted: &mut IndexMap<u32, bool>,
     index: u32,
 ) -> Result<bool, Memory>
     requires { AreNotes (spec.is_signature_by tables.now kind) noted.old }
@@ -166,7 +166,7 @@ fn check_column(alloc: Global, tables: &Tables<'_>, column: SigColumn) -> Result
     requires { column.column < length (columns column.table) }
     ensures { Gives result (spec.column_signature_checks tables.now column) }
 {
-    let mut noted = BTreeMap::new(alloc);
+    let mut noted = IndexMap::new(alloc);
     for row in 0..tables.row_count(column.table) {
         let index = tables.cell(column.table, row + 1, column.column);
         let good = is_signature_by(alloc, tables, column.kind, &mut noted, index)?;

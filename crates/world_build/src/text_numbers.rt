@@ -8,9 +8,9 @@ ghost use Rattle.world_build.specs.Numbering as spec;
 use crate::names::Names;
 use cli_tables::Tables;
 use clr_base::{Memory, NameId};
+use indexmap::IndexMap;
 use sqlite_items::Items;
 use std::alloc::Global;
-use std::collections::BTreeMap;
 
 /// The text at an index; empty where there is none, which is not so in a file that passes its checks.
 fn text_by<'a>(tables: &Tables<'a>, index: u32) -> &'a str
@@ -26,7 +26,7 @@ fn text_by<'a>(tables: &Tables<'a>, index: u32) -> &'a str
 fn number_at(
     alloc: Global,
     names: &mut Names,
-    noted: &mut BTreeMap<u32, NameId>,
+    noted: &mut IndexMap<u32, NameId>,
     tables: &Tables<'_>,
     index: u32,
 ) -> Result<NameId, Memory>
@@ -59,7 +59,7 @@ pub(crate) fn number_column(
     ensures numbers { IfOk result (λ ids. spec.IsSettled names.new (λ ns. map (spec.id_in ns) (spec.column_texts tables.now table column)) ids) }
     ensures few { OnOk result (length names.new ≤ length names.old + 16777215) }
 {
-    let mut noted = BTreeMap::new(alloc);
+    let mut noted = IndexMap::new(alloc);
     let mut ids = Items::new(alloc);
     for row in 0..tables.row_count(table) {
         let index = tables.cell(table, row + 1, column);
