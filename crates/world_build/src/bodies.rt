@@ -4,6 +4,7 @@ ghost use Rattle.cli_tables.specs.Layout.{row_count};
 ghost use Rattle.pe_image.specs.Metadata.{metadata_of};
 ghost use Rattle.world_build.specs.Bodies as spec;
 
+use crate::room::with_room;
 use crate::rows::METHOD_DEF;
 use cli_tables::Tables;
 use clr_base::{ImageFault, Memory};
@@ -76,8 +77,9 @@ pub fn file_bodies(
     ensures { IfOk result (λ bodies. bodies ≡ spec.file_bodies bytes.now file tables.now) }
 {
     let headers = metadata(bytes);
-    let mut bodies = Items::new(alloc);
-    for row in 0..tables.row_count(METHOD_DEF) {
+    let count = tables.row_count(METHOD_DEF);
+    let mut bodies = with_room(alloc, count as usize)?;
+    for row in 0..count {
         bodies.push(body_of(bytes, &headers, file, tables, row + 1))?;
     }
     Ok(bodies)

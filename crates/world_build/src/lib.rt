@@ -45,6 +45,7 @@ mod references;
 mod refusal;
 mod resolution;
 mod resolve;
+mod room;
 mod root_laws;
 mod roots;
 mod row_index;

@@ -46,8 +46,8 @@ impl MemberGroups {
         requires { length names.now < 2 ^ 32 }
         ensures { IfOk result (AreGroups names.now first count) }
     {
-        let mut by_name = IndexMap::new(alloc);
         let there = (names.len() as u32).saturating_sub(first).min(count);
+        let mut by_name = IndexMap::with_capacity(alloc, there as usize)?;
         for k in 0..there {
             let name = names[(first + k) as usize];
             add(alloc, &mut by_name, name.0, first + k)?;

@@ -7,6 +7,7 @@ ghost use Rattle.world_build.specs.MemberTable as spec;
 use crate::member_groups::MemberGroups;
 use crate::member_table::MemberTable;
 use crate::open_method::{Open, same_open};
+use crate::room::with_room;
 use clr_base::{FieldId, Memory, MethId, NameId};
 use sqlite_items::{Items, at};
 use std::alloc::Global;
@@ -23,7 +24,7 @@ pub struct MemberIndex {
 fn method_names(alloc: Global, methods: &[Method]) -> Result<Items<NameId>, Memory>
     ensures { IfOk result (λ names. names ≡ map (λ m. m.name) methods.now) }
 {
-    let mut names = Items::new(alloc);
+    let mut names = with_room(alloc, methods.len())?;
     for method in methods {
         names.push(method.name)?;
     }
@@ -34,7 +35,7 @@ fn method_names(alloc: Global, methods: &[Method]) -> Result<Items<NameId>, Memo
 fn field_names(alloc: Global, fields: &[Field]) -> Result<Items<NameId>, Memory>
     ensures { IfOk result (λ names. names ≡ map (λ f. f.name) fields.now) }
 {
-    let mut names = Items::new(alloc);
+    let mut names = with_room(alloc, fields.len())?;
     for field in fields {
         names.push(field.name)?;
     }
@@ -89,8 +90,8 @@ impl MemberIndex {
     {
         let method_names = method_names(alloc, members.methods.as_slice())?;
         let field_names = field_names(alloc, members.fields.as_slice())?;
-        let mut methods = Items::new(alloc);
-        let mut fields = Items::new(alloc);
+        let mut methods = with_room(alloc, members.runs.len())?;
+        let mut fields = with_room(alloc, members.runs.len())?;
         for r in members.runs.as_slice() {
             let names = method_names.as_slice();
             methods.push(MemberGroups::new(alloc, names, r.first_method, r.methods)?)?;

@@ -6,6 +6,7 @@ ghost use Rattle.world_build.specs.References.{member_ref as member_of_row};
 
 use crate::reader::Reader;
 use crate::references::{CLASS, MEMBER_REF, NAME, SIGNATURE, member_ref};
+use crate::room::with_room;
 use cli_tables::Tables;
 use clr_base::Memory;
 use indexmap::IndexMap;
@@ -62,9 +63,10 @@ fn noted_member(
 pub fn members_of_refs(alloc: Global, reader: &Reader<'_, '_>) -> Result<Items<Member>, Memory>
     ensures { IfOk result (λ members. members ≡ spec.members_of_refs reader.now) }
 {
-    let mut noted = IndexMap::new(alloc);
-    let mut members = Items::new(alloc);
-    for row in 0..reader.tables().row_count(MEMBER_REF) {
+    let count = reader.tables().row_count(MEMBER_REF);
+    let mut noted = IndexMap::with_capacity(alloc, count as usize)?;
+    let mut members = with_room(alloc, count as usize)?;
+    for row in 0..count {
         members.push(noted_member(alloc, reader, &mut noted, row + 1)?)?;
     }
     Ok(members)

@@ -11,6 +11,7 @@ use crate::file_names::FileNames;
 use crate::file_rows::FileRows;
 use crate::formals::{formals_of, method_owner};
 use crate::owners::owners;
+use crate::room::with_room;
 use crate::rows::METHOD_DEF;
 use crate::trees::{EMPTY_NAME, row_counts, tree, trees, value_or};
 use crate::type_rows::TypeRows;
@@ -182,9 +183,10 @@ fn file_methods(
     ensures generics { IfOk result (λ found. found.1 ≡ spec.file_generics tables.now) }
 {
     let owners = owners(alloc, tables, METHOD_LIST, METHOD_DEF)?;
-    let mut methods = Items::new(alloc);
-    let mut generics = Items::new(alloc);
-    for row in 0..tables.row_count(METHOD_DEF) {
+    let count = tables.row_count(METHOD_DEF);
+    let mut methods = with_room(alloc, count as usize)?;
+    let mut generics = with_room(alloc, count as usize)?;
+    for row in 0..count {
         let sig = method_sig(alloc, tables, row + 1)?;
         let def = owners.as_slice()[row as usize];
         methods.push(method_of(alloc, names, tables, rows, &sig, def, row + 1)?)?;
@@ -206,8 +208,9 @@ fn file_fields(
     ensures { IfOk result (λ fields. fields ≡ spec.file_fields names.now tables.now) }
 {
     let owners = owners(alloc, tables, FIELD_LIST, FIELD)?;
-    let mut fields = Items::new(alloc);
-    for row in 0..tables.row_count(FIELD) {
+    let count = tables.row_count(FIELD);
+    let mut fields = with_room(alloc, count as usize)?;
+    for row in 0..count {
         let def = owners.as_slice()[row as usize];
         fields.push(field_of(alloc, names, tables, rows, def, row + 1)?)?;
     }

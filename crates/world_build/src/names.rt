@@ -4,6 +4,7 @@ ghost use Rattle.std.specs.Prelude.{◌≡◌, ◌<◌, ◌↔◌, [], length, I
 ghost use Rattle.std.specs.Str.{bytes_eq};
 ghost use Rattle.world_build.specs.Names.{number_in, with_one};
 
+use crate::room::with_room;
 use clr_base::{Memory, NameId, Text};
 use indexmap::IndexSet;
 use sqlite_items::Items;
@@ -78,8 +79,8 @@ impl Names {
     pub fn texts(&self, alloc: Global) -> Result<Items<Text>, Memory>
         ensures { IfOk result (λ texts. texts ≡ self.now) }
     {
-        let mut texts = Items::new(alloc);
         let names = self.set.as_slice();
+        let mut texts = with_room(alloc, names.len())?;
         for name in names {
             texts.push(Text::from_str(alloc, name.as_str())?)?;
         }

@@ -6,6 +6,7 @@ ghost use Rattle.world_build.specs.Names.{with_one, with_all};
 ghost use Rattle.world_build.specs.Numbering as spec;
 
 use crate::names::Names;
+use crate::room::with_room;
 use cli_tables::Tables;
 use clr_base::{Memory, NameId};
 use indexmap::IndexMap;
@@ -59,9 +60,10 @@ pub(crate) fn number_column(
     ensures numbers { IfOk result (λ ids. spec.IsSettled names.new (λ ns. map (spec.id_in ns) (spec.column_texts tables.now table column)) ids) }
     ensures few { OnOk result (length names.new ≤ length names.old + 16777215) }
 {
+    let count = tables.row_count(table);
     let mut noted = IndexMap::new(alloc);
-    let mut ids = Items::new(alloc);
-    for row in 0..tables.row_count(table) {
+    let mut ids = with_room(alloc, count as usize)?;
+    for row in 0..count {
         let index = tables.cell(table, row + 1, column);
         let id = number_at(alloc, names, &mut noted, tables, index)?;
         ids.push(id)?;

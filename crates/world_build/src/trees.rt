@@ -7,6 +7,7 @@ ghost use Rattle.world_build.specs.Trees.{AreNumbered};
 
 use crate::cells::{RowOf, blob, coded};
 use crate::core_type::CoreType;
+use crate::room::with_room;
 use crate::rows::TYPE_DEF;
 use crate::type_rows::{Target, TypeRows};
 use cli_sigs::{RowCounts, SigFault, SigTy, read_type_spec};
@@ -139,7 +140,7 @@ pub(crate) fn trees(alloc: Global, types: &TypeRows, sigs: &[SigTy]) -> Result<T
     requires { AreNumbered types.now }
     ensures { IfOk result (λ ts. ts ≡ spec.trees types.now sigs.now) }
 {
-    let mut done = Items::new(alloc);
+    let mut done = with_room(alloc, sigs.len())?;
     for sig in sigs {
         done.push(tree(alloc, types, sig)?)?;
     }

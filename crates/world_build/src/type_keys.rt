@@ -38,7 +38,7 @@ impl FirstPlaces {
         requires { length keys.now < 4294967295 }
         ensures { IfOk result (spec.Finds keys.now) }
     {
-        let mut places = IndexMap::new(alloc);
+        let mut places = IndexMap::with_capacity(alloc, keys.len())?;
         for place in 0..keys.len() {
             note(&mut places, keys[place], place as u32)?;
         }
