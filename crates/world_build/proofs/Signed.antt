@@ -1,9 +1,9 @@
 -- The checks of signatures, column by column.
 use Rattle.std.proofs.Common.{◌≡◌, ℕ, zero, suc, ◌+◌, ◌<◌, Bool, List, [], ◌++◌, ◌∷◌, length, take, drop, Ok, Err, sym, ap, ap₂, ◌∙◌, arith, get_or}
 use Rattle.std.specs.List.{flat_map}
-use Rattle.indexmap.specs.IndexMap.{IndexMap}
 use Rattle.std.proofs.lemmas.Grind.{flat_map-append}
 use Rattle.std.proofs.lemmas.List.{drop_more, take_more, take-append-drop}
+use Rattle.indexmap.specs.IndexMap.{IndexMap}
 use Rattle.clr_base.specs.declared.image_fault.ImageFault.{ImageFault}
 use Rattle.clr_base.specs.declared.image_fault.FaultKind.TheVariants.{BadSignature}
 use Rattle.clr_base.specs.Checks.{Check, check, first_fault}
