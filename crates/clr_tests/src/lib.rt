@@ -2,6 +2,8 @@
 #![tactic(auto)]
 
 #[cfg(test)]
+mod built;
+#[cfg(test)]
 mod files;
 #[cfg(test)]
 mod image;
@@ -15,5 +17,9 @@ mod run;
 mod schema;
 #[cfg(test)]
 mod signatures;
+#[cfg(test)]
+mod world_members;
+#[cfg(test)]
+mod worlds;
 #[cfg(test)]
 mod written;

@@ -53,7 +53,7 @@ fn fields_up_to_wide_lists(rt: HostRuntime) -> Result<(), Fail> {
 }
 
 /// `class C : IEquatable<C> { public virtual final newslot bool Equals(C) { return false; } }`
-fn equatable(alloc: Global) -> Result<Assembly, AllocError> {
+pub fn equatable(alloc: Global) -> Result<Assembly, AllocError> {
     let mut kit = Assembly::new(alloc, "m.dll")?;
     let object = kit.type_ref("System", "Object")?;
     let equatable = kit.type_ref("System", "IEquatable`1")?;
