@@ -41,6 +41,17 @@ pub fn built(
     Ok(build(alloc, files.as_slice(), form, roots.as_slice()))
 }
 
+/// The world of drafts with the roots that words name, which there must be.
+pub fn world_of(
+    rt: &impl Abort,
+    alloc: Global,
+    drafts: &[Draft],
+    form: RootForm,
+    words: &[&str],
+) -> Result<World, Fail> {
+    Ok(built(rt, alloc, drafts, form, words)??)
+}
+
 /// The tree of a signature, which must be a type's.
 pub fn tree_of<'a>(rt: &impl Abort, world: &'a World, sig: SigId) -> &'a Ty {
     assert!(rt; sig.0 < world.sig_count());

@@ -1,8 +1,9 @@
 //! Roots, members and signatures in the worlds of files.
-use crate::built::{built, token_of, tree_of};
+use crate::built::{built, token_of, tree_of, world_of};
 use crate::kit::{Assembly, Row, methods, types};
 use crate::written::equatable;
 use clr_base::{FieldId, MethId, SigId};
+use image_write::Draft;
 use std::alloc::{AllocError, Global};
 use std::process::Abort;
 use std::test::Fail;
@@ -26,8 +27,8 @@ const MAINS: [(&str, &[(u32, &[u8])]); 4] = [
     ("S", &[(STATIC, &[0, 1, 0x01, 0x08])]),
 ];
 
-/// A program with the first of these classes.
-fn program(alloc: Global, mains: &[(&str, &[(u32, &[u8])])]) -> Result<Assembly, AllocError> {
+/// A program with classes and the methods `Main` of each.
+fn program(alloc: Global, mains: &[(&str, &[(u32, &[u8])])]) -> Result<Draft, AllocError> {
     let mut kit = Assembly::new(alloc, "p.dll")?;
     let object = kit.type_ref("System", "Object")?;
     for (class, list) in mains {
@@ -36,7 +37,7 @@ fn program(alloc: Global, mains: &[(&str, &[(u32, &[u8])])]) -> Result<Assembly,
             kit.method(*flags, "Main", signature, Some(RET))?;
         }
     }
-    Ok(kit)
+    kit.draft()
 }
 
 /// Tests a root.
@@ -64,9 +65,9 @@ fn assert_signatures(
 #[test]
 fn entries_of_each_form(rt: HostRuntime) -> Result<(), Fail> {
     let alloc = rt.alloc();
-    let drafts = [program(alloc, &MAINS)?.draft()?];
     let words = ["P::Main", "Q::Main", "R::Main"];
-    let world = built(&rt, alloc, &drafts, RootForm::Entries, &words)??;
+    let drafts = [program(alloc, &MAINS)?];
+    let world = world_of(&rt, alloc, &drafts, RootForm::Entries, &words)?;
     // The methods of the core come first, 98 of them.
     for (number, sig, method) in [(0, 20, 99), (1, 21, 100), (2, 22, 101)] {
         assert_root(&rt, &world, number, sig, Some(MethId(method)));
@@ -74,28 +75,35 @@ fn entries_of_each_form(rt: HostRuntime) -> Result<(), Fail> {
     Ok(())
 }
 
-#[test]
-fn the_first_word_that_names_no_entry(rt: HostRuntime) -> Result<(), Fail> {
-    let alloc = rt.alloc();
-    for word in ["P::None", "S::Main", "None::Main", "<Module>::Main", "P"] {
-        let drafts = [program(alloc, &MAINS)?.draft()?];
-        let words = ["P::Main", word, "Q::None"];
-        match built(&rt, alloc, &drafts, RootForm::Entries, &words)? {
-            Err(BuildFault::NoName(found)) => assert_eq!(rt; found.as_str(), word),
-            Err(fault) => return Err(Fail::from(fault)),
-            Ok(_) => panic!(&rt; "each word names something"),
-        }
+/// Tests that a word is the first that names no entry.
+fn assert_no_entry(rt: &impl Abort, alloc: Global, word: &str) -> Result<(), Fail> {
+    let words = ["P::Main", word, "Q::None"];
+    let drafts = [program(alloc, &MAINS)?];
+    match built(rt, alloc, &drafts, RootForm::Entries, &words)? {
+        Err(BuildFault::NoName(found)) => assert_eq!(rt; found.as_str(), word),
+        Err(fault) => return Err(Fail::from(fault)),
+        Ok(_) => panic!(rt; "each word names something"),
     }
     Ok(())
 }
 
 #[test]
+fn words_that_name_no_entry(rt: HostRuntime) -> Result<(), Fail> {
+    for word in ["P::None", "S::Main", "None::Main", "<Module>::Main", "P"] {
+        assert_no_entry(&rt, rt.alloc(), word)?;
+    }
+    Ok(())
+}
+
+/// `class P { static void Main() { } }`
+const ONE_CLASS: [(&str, &[(u32, &[u8])]); 1] = [("P", &[(STATIC, &[0, 0, 0x01])])];
+
+#[test]
 fn signatures_of_one_class(rt: HostRuntime) -> Result<(), Fail> {
     let alloc = rt.alloc();
-    let mains: [(&str, &[(u32, &[u8])]); 1] = [("P", &[(STATIC, &[0, 0, 0x01])])];
-    let drafts = [program(alloc, &mains)?.draft()?];
     let words = ["P::Main", "P::Main"];
-    let world = built(&rt, alloc, &drafts, RootForm::Entries, &words)??;
+    let drafts = [program(alloc, &ONE_CLASS)?];
+    let world = world_of(&rt, alloc, &drafts, RootForm::Entries, &words)?;
     assert_root(&rt, &world, 0, 10, Some(MethId(98)));
     assert_root(&rt, &world, 1, 11, Some(MethId(98)));
     assert_signatures(
@@ -123,7 +131,7 @@ fn signatures_of_one_class(rt: HostRuntime) -> Result<(), Fail> {
 fn signatures_of_a_class_that_implements(rt: HostRuntime) -> Result<(), Fail> {
     let alloc = rt.alloc();
     let drafts = [equatable(alloc)?.draft()?];
-    let world = built(&rt, alloc, &drafts, RootForm::Types, &["C"])??;
+    let world = world_of(&rt, alloc, &drafts, RootForm::Types, &["C"])?;
     assert_root(&rt, &world, 0, 14, None);
     assert_signatures(
         &rt,
@@ -188,7 +196,7 @@ const MEMBER_REFS: [(Row, &str, &[u8], Member); 11] = [
 ];
 
 /// `class B { string f; int f; int f; void M() { } void M() { } }`, `class D : B { }`, and the references.
-fn referring(alloc: Global) -> Result<Assembly, AllocError> {
+fn referring(alloc: Global) -> Result<Draft, AllocError> {
     let mut kit = Assembly::new(alloc, "m.dll")?;
     let object = kit.type_ref("System", "Object")?;
     let b = kit.define(types::CLASS, "", "B", object)?;
@@ -202,25 +210,28 @@ fn referring(alloc: Global) -> Result<Assembly, AllocError> {
     for (class, name, signature, _) in MEMBER_REFS {
         kit.member_ref(class, name, signature)?;
     }
-    Ok(kit)
+    kit.draft()
+}
+
+/// Tests a reference: its member, and that its signature is the parent's.
+fn assert_member(rt: &impl Abort, world: &World, row: u32, parent: Row, member: Member) {
+    let token = token_of(rt, world, 1, Row { table: 0x0a, row });
+    assert_eq!(rt; token.member, member, "{row}");
+    let parent = token_of(rt, world, 1, parent).sig;
+    assert_eq!(rt;
+        tree_of(rt, world, token.sig),
+        tree_of(rt, world, parent),
+        "{row}"
+    );
 }
 
 #[test]
 fn own_members_alone(rt: HostRuntime) -> Result<(), Fail> {
     let alloc = rt.alloc();
-    let drafts = [referring(alloc)?.draft()?];
-    let world = built(&rt, alloc, &drafts, RootForm::Types, &[])??;
-    for ((class, _, _, member), row) in MEMBER_REFS.iter().zip(1u32..100) {
-        let table = 0x0a;
-        let token = token_of(&rt, &world, 1, Row { table, row });
-        assert_eq!(rt; token.member, *member, "{row}");
-        // Its signature is the parent's.
-        let parent = token_of(&rt, &world, 1, *class).sig;
-        assert_eq!(rt;
-            tree_of(&rt, &world, token.sig),
-            tree_of(&rt, &world, parent),
-            "{row}"
-        );
+    let drafts = [referring(alloc)?];
+    let world = world_of(&rt, alloc, &drafts, RootForm::Types, &[])?;
+    for ((parent, _, _, member), row) in MEMBER_REFS.iter().zip(1u32..100) {
+        assert_member(&rt, &world, row, *parent, *member);
     }
     Ok(())
 }

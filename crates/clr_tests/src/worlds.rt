@@ -1,27 +1,26 @@
 //! What references to types mean in the worlds of files.
-use crate::built::{built, file_of, token_of, tree_of};
+use crate::built::{file_of, token_of, tree_of, world_of};
 use crate::kit::{Assembly, NOTHING, Row, types};
 use cli_tables::CodedIndex;
+use image_write::Draft;
 use std::alloc::{AllocError, Global};
 use std::process::Abort;
 use std::test::Fail;
 use type_tree::{Ty, World, type_text};
 use world_build::RootForm;
 
+// `Lib` is the assembly of the second file and of the third, `Gone` one that no file has, `Module` another module of the own
+// assembly, and `Within` the reference in a row.
 /// Where a reference is resolved.
 #[derive(Clone, Copy)]
 enum Scope {
     Nowhere,
     Core,
-    /// The assembly of the other file.
     Lib,
-    /// An assembly that no file has.
     Gone,
     OwnAssembly,
     OwnModule,
-    /// Another module of the own assembly.
     Module,
-    /// The reference in a row.
     Within(u32),
 }
 
@@ -169,26 +168,58 @@ fn assert_type(
     Ok(())
 }
 
+/// Tests what the reference in a row of the first file names.
+fn assert_reference(
+    rt: &impl Abort,
+    alloc: Global,
+    world: &World,
+    row: u32,
+    file: Option<u32>,
+    text: &str,
+) -> Result<(), Fail> {
+    let sig = token_of(rt, world, 1, reference_in(row)).sig;
+    assert_type(rt, alloc, world, tree_of(rt, world, sig), file, text)
+}
+
+/// The file that has the references, and two files that are called alike.
+fn files(alloc: Global) -> Result<Vec<Draft>, AllocError> {
+    let mut drafts = Vec::new(alloc);
+    drafts.push(referring(alloc)?.draft()?)?;
+    drafts.push(library(alloc)?.draft()?)?;
+    drafts.push(classes(alloc, "lib", "Lib", &["Outer", "Second"])?.draft()?)?;
+    Ok(drafts)
+}
+
 #[test]
 fn each_kind_of_reference(rt: HostRuntime) -> Result<(), Fail> {
     let alloc = rt.alloc();
-    let drafts = [
-        referring(alloc)?.draft()?,
-        library(alloc)?.draft()?,
-        classes(alloc, "lib", "Lib", &["Outer", "Second"])?.draft()?,
-    ];
-    let world = built(&rt, alloc, &drafts, RootForm::Types, &[])??;
+    let drafts = files(alloc)?;
+    let world = world_of(&rt, alloc, &drafts, RootForm::Types, &[])?;
     for ((_, _, _, file, text), row) in REFERENCES.iter().zip(1u32..100) {
-        let sig = token_of(&rt, &world, 1, reference_in(row)).sig;
-        let t = tree_of(&rt, &world, sig);
-        assert_type(&rt, alloc, &world, t, *file, text)?;
+        assert_reference(&rt, alloc, &world, row, *file, text)?;
     }
     Ok(())
 }
 
+/// A file whose assembly has a name, and references through that name to two types that the file has.
+fn called(alloc: Global, name: &str) -> Result<Draft, AllocError> {
+    let mut kit = classes(alloc, name, "System", &["Object", "Extra"])?;
+    let own = assembly(&mut kit, name)?;
+    reference(&mut kit, own, "System", "Object")?;
+    reference(&mut kit, own, "System", "Extra")?;
+    kit.draft()
+}
+
+/// Tests that the core is found under a name, and not the file that is called so.
+fn assert_core(rt: &impl Abort, alloc: Global, name: &str) -> Result<(), Fail> {
+    let draft = called(alloc, name)?;
+    let world = world_of(rt, alloc, &[draft], RootForm::Types, &[])?;
+    assert_reference(rt, alloc, &world, 1, Some(0), "System.Object")?;
+    assert_reference(rt, alloc, &world, 2, None, "System.Extra")
+}
+
 #[test]
 fn the_core_before_a_file_of_its_name(rt: HostRuntime) -> Result<(), Fail> {
-    let alloc = rt.alloc();
     for name in [
         "mscorlib",
         "netstandard",
@@ -196,34 +227,32 @@ fn the_core_before_a_file_of_its_name(rt: HostRuntime) -> Result<(), Fail> {
         "System.Private.CoreLib",
         "System.Console",
     ] {
-        let mut kit = classes(alloc, name, "System", &["Object", "Extra"])?;
-        let core = assembly(&mut kit, name)?;
-        for class in ["Object", "Extra"] {
-            reference(&mut kit, core, "System", class)?;
-        }
-        let world = built(&rt, alloc, &[kit.draft()?], RootForm::Types, &[])??;
-        for (row, file, text) in [(1, Some(0), "System.Object"), (2, None, "System.Extra")] {
-            let sig = token_of(&rt, &world, 1, reference_in(row)).sig;
-            let t = tree_of(&rt, &world, sig);
-            assert_type(&rt, alloc, &world, t, file, text)?;
-        }
+        assert_core(&rt, rt.alloc(), name)?;
     }
     Ok(())
 }
 
-/// An assembly with a class that extends one of another assembly.
+/// A file with a class that extends one of another assembly.
 fn extending(
     alloc: Global,
     name: &str,
     class: &str,
     other: &str,
     parent: &str,
-) -> Result<Assembly, AllocError> {
+) -> Result<Draft, AllocError> {
     let mut kit = Assembly::new(alloc, name)?;
     let other = assembly(&mut kit, other)?;
     let parent = reference(&mut kit, other, "", parent)?;
     kit.define(types::CLASS, "", class, parent)?;
-    Ok(kit)
+    kit.draft()
+}
+
+/// Two files, each with a class that extends the other's.
+fn entwined(alloc: Global) -> Result<Vec<Draft>, AllocError> {
+    let mut drafts = Vec::new(alloc);
+    drafts.push(extending(alloc, "a", "A", "b", "B")?)?;
+    drafts.push(extending(alloc, "b", "B", "a", "A")?)?;
+    Ok(drafts)
 }
 
 /// What the definition at the head of a root's type extends, which must be something.
@@ -243,14 +272,10 @@ fn parent_of<'a>(rt: &impl Abort, world: &'a World, root: u32) -> &'a Ty {
 #[test]
 fn classes_that_extend_each_other(rt: HostRuntime) -> Result<(), Fail> {
     let alloc = rt.alloc();
-    let drafts = [
-        extending(alloc, "a", "A", "b", "B")?.draft()?,
-        extending(alloc, "b", "B", "a", "A")?.draft()?,
-    ];
-    let world = built(&rt, alloc, &drafts, RootForm::Types, &["A", "B"])??;
+    let drafts = entwined(alloc)?;
+    let world = world_of(&rt, alloc, &drafts, RootForm::Types, &["A", "B"])?;
     for (root, file, text) in [(0, Some(2), "B"), (1, Some(1), "A")] {
-        let parent = parent_of(&rt, &world, root);
-        assert_type(&rt, alloc, &world, parent, file, text)?;
+        assert_type(&rt, alloc, &world, parent_of(&rt, &world, root), file, text)?;
     }
     Ok(())
 }
