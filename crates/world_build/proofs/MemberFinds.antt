@@ -9,11 +9,11 @@ use Rattle.clr_base.specs.declared.ids.NameId.{NameId}
 use Rattle.type_tree.specs.declared.definition.Field.{Field}
 use Rattle.type_tree.specs.declared.definition.Method.{Method}
 use Rattle.type_tree.specs.declared.tree.Ty.{Ty}
-use Rattle.world_build.specs.declared.member_index.MemberIndex.{MemberIndex}
+use Rattle.world_build.specs.declared.member_groups.MemberGroups.{MemberGroups}
 use Rattle.world_build.specs.declared.member_table.MemberTable.{MemberTable}
 use Rattle.world_build.specs.declared.member_table.Run.{Run}
-use Rattle.world_build.specs.MemberIndexes.{IsIndexOf, has_name, named, of_def, method_names, field_names, is_wanted, has_type}
-use Rattle.world_build.specs.MemberTable.{Open, open_method, same_name, same_open, same_tree, is_method, own_method, is_field, own_field}
+use Rattle.world_build.specs.MemberIndexes.{AreGroups, at_name, has_name, method_names, field_names, is_wanted, has_type}
+use Rattle.world_build.specs.MemberTable.{Open, open_method, same_name, same_open, same_tree, method_id, is_method, own_method, field_id, is_field, own_field}
 
 -- ---- what is found among items that pass another test
 
@@ -32,9 +32,6 @@ module _ (p q r : ℕ → Bool) (both : (x : ℕ) → p x ≡ (q x && r x)) wher
 
 -- ---- methods
 
-abbrev pub method_id : ℕ → MethId
-method_id i = record { 0 = i }
-
 method_both : (w : MemberTable) (name : NameId) (wanted : Open) (i : ℕ)
     → is_method w name wanted i ≡ (has_name (method_names w) name i && is_wanted w wanted i)
 method_both w name wanted i =
@@ -48,24 +45,24 @@ method_both w name wanted i =
     there None = refl
     there (Some m) = refl
 
-pub method_found : (w : MemberTable) (index : MemberIndex) → IsIndexOf w index → (d : ℕ) (name : NameId) (wanted : Open)
-    → option_map method_id (find (is_wanted w wanted) (of_def index.methods d name)) ≡ own_method w d name wanted
+pub method_found : (w : MemberTable) (r : Run) (g : MemberGroups) → AreGroups (method_names w) r.first_method r.methods g → (name : NameId) (wanted : Open)
+    → find (is_wanted w wanted) (at_name g name) ≡ find (is_method w name wanted) (range_with_len r.first_method r.methods)
+method_found w r g groups name wanted =
+    ap (find (is_wanted w wanted)) (groups.each name)
+    ∙ sym (find_kept (is_method w name wanted) (has_name (method_names w) name) (is_wanted w wanted) (method_both w name wanted) (range_with_len r.first_method r.methods))
+
+pub method_of_run : (w : MemberTable) (d : ℕ) (r : Run) (name : NameId) (wanted : Open) → slice_get w.runs d ≡ Some r
+    → option_map method_id (find (is_method w name wanted) (range_with_len r.first_method r.methods)) ≡ own_method w d name wanted
 unfolding own_method
-method_found w index indexed d name wanted =
-    ap (λ xs. option_map method_id (find (is_wanted w wanted) xs)) (indexed.methods d name) ∙ in_run (slice_get w.runs d)
-  where
-    in_run : (r : Option Run)
-        → option_map method_id (find (is_wanted w wanted) (option_map_or (λ r. named (method_names w) r.first_method r.methods name) r []))
-        ≡ option_and_then (λ r. option_map method_id (find (is_method w name wanted) (range_with_len r.first_method r.methods))) r
-    in_run None = refl
-    in_run (Some r) =
-        ap (option_map method_id)
-        (sym (find_kept (is_method w name wanted) (has_name (method_names w) name) (is_wanted w wanted) (method_both w name wanted) (range_with_len r.first_method r.methods)))
+method_of_run w d r name wanted there =
+    ap (λ (run : Option Run). option_and_then (λ r. option_map method_id (find (is_method w name wanted) (range_with_len r.first_method r.methods))) run) (sym there)
+
+pub method_of_none : (w : MemberTable) (d : ℕ) (name : NameId) (wanted : Open) → slice_get w.runs d ≡ None → None ≡ own_method w d name wanted
+unfolding own_method
+method_of_none w d name wanted none =
+    ap (λ (run : Option Run). option_and_then (λ r. option_map method_id (find (is_method w name wanted) (range_with_len r.first_method r.methods))) run) (sym none)
 
 -- ---- fields
-
-abbrev pub field_id : ℕ → FieldId
-field_id i = record { 0 = i }
 
 field_both : (w : MemberTable) (name : NameId) (t : Ty) (i : ℕ) → is_field w name t i ≡ (has_name (field_names w) name i && has_type w t i)
 field_both w name t i =
@@ -78,16 +75,19 @@ field_both w name t i =
     there None = refl
     there (Some f) = refl
 
-pub field_found : (w : MemberTable) (index : MemberIndex) → IsIndexOf w index → (d : ℕ) (name : NameId) (t : Ty)
-    → option_map field_id (find (has_type w t) (of_def index.fields d name)) ≡ own_field w d name t
+pub field_found : (w : MemberTable) (r : Run) (g : MemberGroups) → AreGroups (field_names w) r.first_field r.fields g → (name : NameId) (t : Ty)
+    → find (has_type w t) (at_name g name) ≡ find (is_field w name t) (range_with_len r.first_field r.fields)
+field_found w r g groups name t =
+    ap (find (has_type w t)) (groups.each name)
+    ∙ sym (find_kept (is_field w name t) (has_name (field_names w) name) (has_type w t) (field_both w name t) (range_with_len r.first_field r.fields))
+
+pub field_of_run : (w : MemberTable) (d : ℕ) (r : Run) (name : NameId) (t : Ty) → slice_get w.runs d ≡ Some r
+    → option_map field_id (find (is_field w name t) (range_with_len r.first_field r.fields)) ≡ own_field w d name t
 unfolding own_field
-field_found w index indexed d name t =
-    ap (λ xs. option_map field_id (find (has_type w t) xs)) (indexed.fields d name) ∙ in_run (slice_get w.runs d)
-  where
-    in_run : (r : Option Run)
-        → option_map field_id (find (has_type w t) (option_map_or (λ r. named (field_names w) r.first_field r.fields name) r []))
-        ≡ option_and_then (λ r. option_map field_id (find (is_field w name t) (range_with_len r.first_field r.fields))) r
-    in_run None = refl
-    in_run (Some r) =
-        ap (option_map field_id)
-        (sym (find_kept (is_field w name t) (has_name (field_names w) name) (has_type w t) (field_both w name t) (range_with_len r.first_field r.fields)))
+field_of_run w d r name t there =
+    ap (λ (run : Option Run). option_and_then (λ r. option_map field_id (find (is_field w name t) (range_with_len r.first_field r.fields))) run) (sym there)
+
+pub field_of_none : (w : MemberTable) (d : ℕ) (name : NameId) (t : Ty) → slice_get w.runs d ≡ None → None ≡ own_field w d name t
+unfolding own_field
+field_of_none w d name t none =
+    ap (λ (run : Option Run). option_and_then (λ r. option_map field_id (find (is_field w name t) (range_with_len r.first_field r.fields))) run) (sym none)

@@ -1,5 +1,5 @@
--- The members of each definition by their names, as an index has them.
-use Rattle.std.specs.Prelude.{◌≡◌, ℕ, ◌<◌, ◌^◌, Bool, false, List, [], map, length, filter, get_or, slice_get}
+-- The members of definitions by their names, as an index has them.
+use Rattle.std.specs.Prelude.{◌≡◌, ℕ, ◌<◌, ◌^◌, Bool, false, List, Option, None, Some, map, length, filter, get_or, slice_get}
 use Rattle.std.specs.Option.{option_map_or}
 use Rattle.std.specs.List.{range_with_len}
 use Rattle.clr_base.specs.declared.ids.NameId.{NameId}
@@ -7,6 +7,7 @@ use Rattle.type_tree.specs.declared.tree.Ty.{Ty}
 use Rattle.world_build.specs.declared.member_groups.MemberGroups.{MemberGroups}
 use Rattle.world_build.specs.declared.member_index.MemberIndex.{MemberIndex}
 use Rattle.world_build.specs.declared.member_table.MemberTable.{MemberTable}
+use Rattle.world_build.specs.declared.member_table.Run.{Run}
 use Rattle.world_build.specs.MemberTable.{Open, open_method, same_name, same_open, same_tree}
 use Rattle.world_build.specs.RowIndexes.{rows_at}
 
@@ -35,20 +36,24 @@ method_names w = map (λ m. m.name) w.methods
 abbrev pub field_names : MemberTable → List NameId
 field_names w = map (λ f. f.name) w.fields
 
--- those of a definition in a list of groups, of which each definition has one
-abbrev pub of_def : List MemberGroups → ℕ → NameId → List ℕ
-of_def groups d name = option_map_or (λ g. at_name g name) (slice_get groups d) []
+-- the numbers of the members fit 32 bits
+pub record AreFew (w : MemberTable) : Type 0 where
+  pub methods : length w.methods < 2 ^ 32
+  pub fields : length w.fields < 2 ^ 32
 
-abbrev pub named_methods : MemberTable → ℕ → NameId → List ℕ
-named_methods w d name = option_map_or (λ r. named (method_names w) r.first_method r.methods name) (slice_get w.runs d) []
+-- the groups of a run, where it has some
+abbrev pub HasGroups : List NameId → ℕ → ℕ → Option MemberGroups → Type 0
+HasGroups names first count None = Unit {0}
+HasGroups names first count (Some g) = AreGroups names first count g
 
-abbrev pub named_fields : MemberTable → ℕ → NameId → List ℕ
-named_fields w d name = option_map_or (λ r. named (field_names w) r.first_field r.fields name) (slice_get w.runs d) []
-
--- An index has the own members of each definition of a table by their names.
+-- An index has the own members of a definition of a table by their names, where it has groups of the definition; their numbers fit
+-- 32 bits.
 pub record IsIndexOf (w : MemberTable) (index : MemberIndex) : Type 0 where
-  pub methods : (d : ℕ) (name : NameId) → of_def index.methods d name ≡ named_methods w d name
-  pub fields : (d : ℕ) (name : NameId) → of_def index.fields d name ≡ named_fields w d name
+  pub methods : (d : ℕ) (r : Run) (g : MemberGroups) → slice_get w.runs d ≡ Some r → slice_get index.methods d ≡ Some (Some g)
+      → AreGroups (method_names w) r.first_method r.methods g
+  pub fields : (d : ℕ) (r : Run) (g : MemberGroups) → slice_get w.runs d ≡ Some r → slice_get index.fields d ≡ Some (Some g)
+      → AreGroups (field_names w) r.first_field r.fields g
+  pub few : AreFew w
 
 -- ---- those that are looked for among them
 
@@ -59,10 +64,3 @@ is_wanted w wanted i = option_map_or (λ m. same_open (open_method m (get_or w.g
 -- whether the field with a number has a type
 abbrev pub has_type : MemberTable → Ty → ℕ → Bool
 has_type w t i = option_map_or (λ f. same_tree f.ty t) (slice_get w.fields i) false
-
--- ---- how many there may be
-
--- the numbers of the members fit 32 bits
-pub record AreFew (w : MemberTable) : Type 0 where
-  pub methods : length w.methods < 2 ^ 32
-  pub fields : length w.fields < 2 ^ 32

@@ -85,6 +85,12 @@ same_open a b =
 abbrev pub same_name : NameId → NameId → Bool
 same_name a b = a.0 == b.0
 
+abbrev pub method_id : ℕ → MethId
+method_id i = record { 0 = i }
+
+abbrev pub field_id : ℕ → FieldId
+field_id i = record { 0 = i }
+
 -- a method has a name and a signature
 abbrev pub is_method : MemberTable → NameId → Open → ℕ → Bool
 is_method w name wanted i =
@@ -94,7 +100,7 @@ is_method w name wanted i =
 unfoldable pub own_method : MemberTable → ℕ → NameId → Open → Option MethId
 own_method w d name wanted =
     option_and_then
-    (λ r. option_map (λ i. record { 0 = i }) (find (is_method w name wanted) (range_with_len r.first_method r.methods)))
+    (λ r. option_map method_id (find (is_method w name wanted) (range_with_len r.first_method r.methods)))
     (slice_get w.runs d)
 
 -- a field has a name and a type
@@ -104,4 +110,4 @@ is_field w name t i = option_map_or (λ f. same_name f.name name && same_tree f.
 -- the first own field of a definition with them
 unfoldable pub own_field : MemberTable → ℕ → NameId → Ty → Option FieldId
 own_field w d name t =
-    option_and_then (λ r. option_map (λ i. record { 0 = i }) (find (is_field w name t) (range_with_len r.first_field r.fields))) (slice_get w.runs d)
+    option_and_then (λ r. option_map field_id (find (is_field w name t) (range_with_len r.first_field r.fields))) (slice_get w.runs d)

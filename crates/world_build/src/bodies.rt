@@ -5,7 +5,7 @@ ghost use Rattle.pe_image.specs.Metadata.{metadata_of};
 ghost use Rattle.world_build.specs.Bodies as spec;
 
 use crate::room::with_room;
-use crate::rows::METHOD_DEF;
+use crate::table_numbers::METHOD_DEF;
 use cli_tables::Tables;
 use clr_base::{ImageFault, Memory};
 use pe_image::{BodyRange, Places, body_range, metadata};

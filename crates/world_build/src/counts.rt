@@ -7,8 +7,11 @@ ghost use Rattle.world_build.specs.SignatureChecks.{AreNotes};
 ghost use Rattle.world_build.specs.Signatures as sigs;
 
 use crate::refusal::Refusal;
-use crate::rows::{METHOD_DEF, TYPE_DEF, token};
+use crate::rows::token;
 use crate::signature_checks::{LOCALS_CODE, begins_with, blob_by};
+use crate::table_numbers::{
+    FIELD, MEMBER_REF, METHOD_DEF, METHOD_SPEC, STAND_ALONE_SIG, TYPE_DEF, TYPE_REF, TYPE_SPEC,
+};
 use crate::trees::{row_counts, value_or};
 use cli_sigs::{SigTyList, read_locals};
 use cli_tables::Tables;
@@ -19,24 +22,6 @@ use std::alloc::Global;
 
 /// The most that tokens can number (ECMA-335 III.1.9: a token has 24 bits for a row).
 const MOST: u32 = 16_777_215;
-
-/// The table TypeRef (II.22.38).
-const TYPE_REF: u8 = 0x01;
-
-/// The table Field (II.22.15).
-const FIELD: u8 = 0x04;
-
-/// The table MemberRef (II.22.25).
-const MEMBER_REF: u8 = 0x0a;
-
-/// The table StandAloneSig (II.22.36).
-const STAND_ALONE_SIG: u8 = 0x11;
-
-/// The table TypeSpec (II.22.39).
-const TYPE_SPEC: u8 = 0x1b;
-
-/// The table MethodSpec (II.22.29).
-const METHOD_SPEC: u8 = 0x2b;
 
 /// How many definitions, methods, fields and signatures there are.
 #[derive(Clone, Copy, Debug, PartialEq, Eq)]
@@ -101,7 +86,7 @@ fn all_locals(alloc: Global, tables: &Tables<'_>) -> Result<u32, Memory>
 
 /// How many signatures the rows of a file have, before the local variables: two a type, one a member.
 #[tactic(auto, unfolding(crate::specs::Signatures::row_sigs))]
-fn row_sigs(tables: &Tables<'_>) -> u32
+pub(crate) fn row_sigs(tables: &Tables<'_>) -> u32
     ensures exact { result ≡ sigs.row_sigs tables.now }
     ensures few { result ≤ 167772150 }
 {

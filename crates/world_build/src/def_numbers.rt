@@ -5,7 +5,7 @@ ghost use Rattle.world_build.specs.Resolution.{def_at, first_def};
 
 use crate::core_table::DEF_COUNT;
 use crate::resolution::DefPlace;
-use crate::rows::TYPE_DEF;
+use crate::table_numbers::TYPE_DEF;
 use cli_tables::Tables;
 use clr_base::{DefId, Memory};
 use sqlite_items::Items;

@@ -9,14 +9,17 @@ ghost use Rattle.world_build.specs.Trees.{AreNumbered};
 
 use crate::cells::coded;
 use crate::file_names::FileNames;
-use crate::file_rows::{CLASS_LAYOUT, FIELD_LAYOUT, FileRows, INTERFACE_IMPL};
+use crate::file_rows::FileRows;
 use crate::formals::{formals_of, type_owner};
 use crate::indexed_rows::{first_cell, types_in};
 use crate::member_table::Run;
 use crate::members::name_at;
 use crate::owners::{before_run, run_len};
 use crate::row_index::RowIndex;
-use crate::rows::{METHOD_DEF, TYPE_DEF};
+use crate::table_numbers::{
+    CLASS_LAYOUT, FIELD, FIELD_LAYOUT, FIELD_LIST, INTERFACE_IMPL, METHOD_DEF, METHOD_LIST,
+    TYPE_DEF,
+};
 use crate::trees::type_at_row;
 use crate::type_rows::TypeRows;
 use cli_tables::{CodedIndex, Tables};
@@ -25,20 +28,13 @@ use sqlite_items::Items;
 use std::alloc::Global;
 use type_tree::{Def, Impl, Ty, TyList};
 
-/// The table Field (II.22.15).
-const FIELD: u8 = 0x04;
-
 /// How many methods the core has: they stand before those of files.
 pub(crate) const CORE_METHOD_COUNT: u32 = 98;
 
-/// The columns of TypeDef: its flags, what it extends, and the first rows of its fields and its methods.
+/// The columns of TypeDef: its flags, and what it extends.
 const FLAGS: u8 = 0;
 
 const EXTENDS: u8 = 3;
-
-const FIELD_LIST: u8 = 4;
-
-const METHOD_LIST: u8 = 5;
 
 /// The column Interface of InterfaceImpl, a coded index TypeDefOrRef.
 const INTERFACE: u8 = 1;

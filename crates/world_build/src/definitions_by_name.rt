@@ -6,7 +6,7 @@ ghost use Rattle.world_build.specs.TypeKeys as spec;
 
 use crate::core_table::DEF_COUNT;
 use crate::nesting::enclosing_rows;
-use crate::rows::TYPE_DEF;
+use crate::table_numbers::TYPE_DEF;
 use crate::type_keys::{FirstPlaces, TypeKey};
 use crate::type_texts::NameColumns;
 use cli_tables::Tables;

@@ -13,7 +13,7 @@ use crate::file_names::FileNames;
 use crate::file_rows::FileRows;
 use crate::method_impls::impls_of;
 use crate::reader::Reader;
-use crate::rows::TYPE_DEF;
+use crate::table_numbers::TYPE_DEF;
 use clr_base::Memory;
 use sqlite_items::Items;
 use std::alloc::Global;

@@ -2,24 +2,14 @@
 ghost use Rattle.std.specs.Prelude.{IfOk};
 ghost use Rattle.world_build.specs.RowIndexes.{AreFileRows};
 
-use crate::formals::GENERIC_PARAM_CONSTRAINT;
 use crate::row_index::RowIndex;
-use crate::rows::GENERIC_PARAM;
+use crate::table_numbers::{
+    CLASS_LAYOUT, FIELD_LAYOUT, GENERIC_PARAM, GENERIC_PARAM_CONSTRAINT, INTERFACE_IMPL,
+    METHOD_IMPL,
+};
 use cli_tables::Tables;
 use clr_base::Memory;
 use std::alloc::Global;
-
-/// The table InterfaceImpl (ECMA-335 II.22.23).
-pub const INTERFACE_IMPL: u8 = 0x09;
-
-/// The table ClassLayout (II.22.8).
-pub const CLASS_LAYOUT: u8 = 0x0f;
-
-/// The table FieldLayout (II.22.16).
-pub const FIELD_LAYOUT: u8 = 0x10;
-
-/// The table MethodImpl (II.22.27).
-pub const METHOD_IMPL: u8 = 0x19;
 
 /// Indexes of a file's rows.
 #[derive(Debug, Drop)]

@@ -1,5 +1,5 @@
 //! All signatures of a file, in their order.
-ghost use Rattle.std.specs.Prelude.{◌≡◌, ◌+◌, ◌*◌, ◌≤◌, ◌++◌, map, IfOk, OnOk};
+ghost use Rattle.std.specs.Prelude.{◌≡◌, ◌+◌, ◌≤◌, ◌++◌, map, IfOk, OnOk};
 ghost use Rattle.type_tree.specs.declared.tree.Key.TheVariants as key;
 ghost use Rattle.type_tree.specs.declared.tree.Ty.TheVariants as ty;
 ghost use Rattle.world_build.specs.Cells.{rows_of};
@@ -8,34 +8,22 @@ ghost use Rattle.world_build.specs.References as references;
 ghost use Rattle.world_build.specs.Signatures as spec;
 ghost use Rattle.world_build.specs.Trees.{AreNumbered};
 
+use crate::counts::row_sigs;
 use crate::local_signatures::push_locals;
 use crate::method_specs::spec_key;
 use crate::reader::Reader;
 use crate::references::ref_owner;
 use crate::row_signatures::{push_arrays, push_owners, push_types};
-use crate::rows::{METHOD_DEF, TYPE_DEF};
+use crate::table_numbers::{
+    FIELD, FIELD_LIST, MEMBER_REF, METHOD_DEF, METHOD_LIST, METHOD_SPEC, TYPE_DEF, TYPE_REF,
+    TYPE_SPEC,
+};
 use crate::type_rows::TypeRows;
 use cli_tables::Tables;
 use clr_base::Memory;
 use sqlite_items::Items;
 use std::alloc::Global;
 use type_tree::{Key, KeyList, Locals, Member};
-
-/// The tables TypeRef (ECMA-335 II.22.38), TypeSpec (II.22.39), Field (II.22.15), MemberRef (II.22.25), MethodSpec (II.22.29).
-const TYPE_REF: u8 = 0x01;
-
-const TYPE_SPEC: u8 = 0x1b;
-
-const FIELD: u8 = 0x04;
-
-const MEMBER_REF: u8 = 0x0a;
-
-const METHOD_SPEC: u8 = 0x2b;
-
-/// The columns of TypeDef with the first rows of a definition's fields and methods (II.22.37).
-const FIELD_LIST: u8 = 4;
-
-const METHOD_LIST: u8 = 5;
 
 /// Appends the types that rows are, and the array of each of them.
 #[tactic(auto, unfolding(crate::specs::Signatures::row_types))]
@@ -100,21 +88,6 @@ fn push_members(
     push_owners(alloc, types, tables, METHOD_LIST, METHOD_DEF, keys)?;
     push_ref_owners(alloc, reader, keys)?;
     push_spec_keys(alloc, reader, refs, keys)
-}
-
-/// How many signatures of rows a file has before its local variables.
-#[tactic(auto, unfolding(crate::specs::Signatures::row_sigs))]
-pub fn row_sigs(tables: &Tables<'_>) -> u32
-    ensures { result ≡ spec.row_sigs tables.now }
-{
-    let types = tables.row_count(TYPE_DEF)
-        + tables.row_count(TYPE_REF)
-        + tables.row_count(TYPE_SPEC);
-    let members = tables.row_count(FIELD)
-        + tables.row_count(METHOD_DEF)
-        + tables.row_count(MEMBER_REF)
-        + tables.row_count(METHOD_SPEC);
-    2 * types + members
 }
 
 /// Appends the signatures of a file: the types of its rows, the arrays of these, its members, its local variables. Tells

@@ -9,25 +9,13 @@ ghost use Rattle.world_build.specs.World as spec;
 use crate::method_specs::method_spec;
 use crate::owners::loose;
 use crate::reader::Reader;
-use crate::rows::{METHOD_DEF, TYPE_DEF};
+use crate::table_numbers::{
+    FIELD, FIELD_LIST, METHOD_DEF, METHOD_LIST, METHOD_SPEC, TYPE_DEF, TYPE_REF, TYPE_SPEC,
+};
 use clr_base::{Bytes, FieldId, Memory, MethId, SigId};
 use sqlite_items::Items;
 use std::alloc::Global;
 use type_tree::{Locals, Member, WorldFile};
-
-/// The tables TypeRef (ECMA-335 II.22.38), TypeSpec (II.22.39), Field (II.22.15), MethodSpec (II.22.29).
-const TYPE_REF: u8 = 0x01;
-
-const TYPE_SPEC: u8 = 0x1b;
-
-const FIELD: u8 = 0x04;
-
-const METHOD_SPEC: u8 = 0x2b;
-
-/// The columns of TypeDef with the first rows of a definition's fields and methods (II.22.37).
-const FIELD_LIST: u8 = 4;
-
-const METHOD_LIST: u8 = 5;
 
 /// The numbers of a file's first signature, field and method.
 #[derive(Clone, Copy, Debug, PartialEq, Eq)]

@@ -25,15 +25,12 @@ use crate::member_refs::members_of_refs;
 use crate::member_table::MemberTable;
 use crate::names::Names;
 use crate::reader::Reader;
-use crate::rows::METHOD_DEF;
+use crate::table_numbers::{FIELD, METHOD_DEF};
 use cli_tables::Tables;
 use clr_base::Memory;
 use sqlite_items::Items;
 use std::alloc::Global;
 use type_tree::{BodyPlace, Def, KeyList, WorldFile};
-
-/// The table Field (ECMA-335 II.22.15).
-const FIELD: u8 = 0x04;
 
 /// The parts of a world to which each file adds its own.
 #[derive(Debug, Drop)]

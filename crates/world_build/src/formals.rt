@@ -6,16 +6,13 @@ ghost use Rattle.world_build.specs.Trees.{AreNumbered};
 
 use crate::indexed_rows::types_in;
 use crate::row_index::RowIndex;
-use crate::rows::GENERIC_PARAM;
+use crate::table_numbers::{GENERIC_PARAM, GENERIC_PARAM_CONSTRAINT};
 use crate::type_rows::TypeRows;
 use cli_tables::Tables;
 use clr_base::Memory;
 use sqlite_items::Items;
 use std::alloc::Global;
 use type_tree::{Formal, TyList};
-
-/// The table GenericParamConstraint (II.22.21).
-pub const GENERIC_PARAM_CONSTRAINT: u8 = 0x2c;
 
 /// The column Flags of GenericParam.
 const FLAGS: u8 = 1;

@@ -8,7 +8,7 @@ ghost use Rattle.world_build.specs.TypeNames as spec;
 
 use crate::cells::text;
 use crate::nesting::enclosing_rows;
-use crate::rows::TYPE_DEF;
+use crate::table_numbers::TYPE_DEF;
 use cli_tables::Tables;
 use clr_base::{Memory, Text};
 use sqlite_items::Items;

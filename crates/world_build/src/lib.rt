@@ -54,6 +54,7 @@ mod row_signatures;
 mod rows;
 mod scopes;
 mod signature_checks;
+mod table_numbers;
 mod text_numbers;
 mod trees;
 mod type_finder;

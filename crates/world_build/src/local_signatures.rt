@@ -7,6 +7,7 @@ ghost use Rattle.world_build.specs.Signatures as spec;
 ghost use Rattle.world_build.specs.Trees.{AreNumbered, tree as tree_of};
 
 use crate::cells::blob;
+use crate::table_numbers::STAND_ALONE_SIG;
 use crate::trees::{row_counts, tree, value_or};
 use crate::type_rows::TypeRows;
 use cli_sigs::{SigTyList, read_locals};
@@ -15,9 +16,6 @@ use clr_base::{Memory, SigId};
 use sqlite_items::Items;
 use std::alloc::Global;
 use type_tree::{Key, KeyList, Locals};
-
-/// The table StandAloneSig.
-const STAND_ALONE_SIG: u8 = 0x11;
 
 /// The byte that a list of local variables begins with.
 const LOCAL_SIG: u8 = 0x07;

@@ -1,5 +1,7 @@
 //! The members of each definition by their names, and those that a name and a signature find (ECMA-335 II.22.25).
-ghost use Rattle.std.specs.Prelude.{◌≡◌, map, get_or, false, IfOk};
+ghost use Rattle.std.specs.Prelude.{◌≡◌, ◌<◌, ◌^◌, length, map, get_or, false, IfOk, IsTrue};
+ghost use Rattle.std.specs.List.{find, range_with_len};
+ghost use Rattle.std.specs.Option.{option_map};
 ghost use Rattle.world_build.specs.MemberIndexes as index;
 ghost use Rattle.world_build.specs.MemberIndexes.{AreFew, IsIndexOf};
 ghost use Rattle.world_build.specs.MemberTable as spec;
@@ -13,11 +15,14 @@ use sqlite_items::{Items, at};
 use std::alloc::Global;
 use type_tree::{Field, Method, Ty};
 
-/// The own methods and fields of each definition by their names.
+/// How many members a definition has at most that are looked at one by one.
+const FEW: u32 = 32;
+
+/// The own methods and fields of each definition by their names. A definition with few of them needs no groups.
 #[derive(Debug, Drop)]
 pub struct MemberIndex {
-    methods: Items<MemberGroups>,
-    fields: Items<MemberGroups>,
+    methods: Items<Option<MemberGroups>>,
+    fields: Items<Option<MemberGroups>>,
 }
 
 /// The name of each method.
@@ -42,21 +47,27 @@ fn field_names(alloc: Global, fields: &[Field]) -> Result<Items<NameId>, Memory>
     Ok(names)
 }
 
-/// The members of a definition, given with those of all definitions, that have a name.
-fn of_def(groups: &[MemberGroups], def: u32, name: NameId) -> &[u32]
-    ensures { result.now ≡ index.of_def groups.now def name }
+/// The members of a run by their names, by the names of all members of its kind; none where they are few.
+fn groups_of(
+    alloc: Global,
+    names: &[NameId],
+    first: u32,
+    count: u32,
+) -> Result<Option<MemberGroups>, Memory>
+    requires { length names.now < 2 ^ 32 }
+    ensures { IfOk result (index.HasGroups names.now first count) }
 {
-    match at(groups, def as usize) {
-        Some(members) => members.named(name),
-        None => &[],
+    if count <= FEW {
+        return Ok(None);
     }
+    Ok(Some(MemberGroups::new(alloc, names, first, count)?))
 }
 
 /// How many generic parameters the signature of the method with a number counts.
-fn generic_count(members: &MemberTable, method: u32) -> u32
+fn generic_count(members: &MemberTable, method: usize) -> u32
     ensures { result ≡ get_or members.now.generics method 0 }
 {
-    at(members.generics.as_slice(), method as usize)
+    at(members.generics.as_slice(), method)
         .copied()
         .unwrap_or(0)
 }
@@ -66,9 +77,52 @@ fn is_wanted(members: &MemberTable, method: u32, wanted: &Open) -> bool
     ensures { result ≡ index.is_wanted members.now wanted.now method }
 {
     match members.methods.get(method as usize) {
-        Some(m) => same_open(m, generic_count(members, method), wanted),
+        Some(m) => same_open(m, generic_count(members, method as usize), wanted),
         None => false,
     }
+}
+
+/// Whether the method with a number has a name and is the one that is wanted.
+fn is_method(members: &MemberTable, method: usize, name: NameId, wanted: &Open) -> bool
+    ensures exact { result ≡ spec.is_method members.now name wanted.now method }
+    ensures there { IsTrue result → method < length members.now.methods }
+{
+    match members.methods.get(method) {
+        Some(m) => m.name.0 == name.0 && same_open(m, generic_count(members, method), wanted),
+        None => false,
+    }
+}
+
+/// The first of some methods that is the one that is wanted.
+fn first_method(members: &MemberTable, methods: &[u32], wanted: &Open) -> Option<MethId>
+    ensures { result ≡ option_map spec.method_id (find (index.is_wanted members.now wanted.now) methods.now) }
+{
+    for method in methods {
+        if is_wanted(members, *method, wanted) {
+            return Some(MethId(*method));
+        }
+    }
+    None
+}
+
+/// The first method of a run that has a name and is the one that is wanted.
+fn method_in_run(
+    members: &MemberTable,
+    first: u32,
+    count: u32,
+    name: NameId,
+    wanted: &Open,
+) -> Option<MethId>
+    requires { AreFew members.now }
+    ensures { result ≡ option_map spec.method_id (find (spec.is_method members.now name wanted.now) (range_with_len first count)) }
+{
+    for k in 0..count {
+        let method = first as usize + k as usize;
+        if is_method(members, method, name, wanted) {
+            return Some(MethId(method as u32));
+        }
+    }
+    None
 }
 
 /// Whether the field with a number has a type.
@@ -81,9 +135,52 @@ fn has_type(members: &MemberTable, field: u32, ty: &Ty) -> bool
     }
 }
 
+/// Whether the field with a number has a name and a type.
+fn is_field(members: &MemberTable, field: usize, name: NameId, ty: &Ty) -> bool
+    ensures exact { result ≡ spec.is_field members.now name ty.now field }
+    ensures there { IsTrue result → field < length members.now.fields }
+{
+    match members.fields.get(field) {
+        Some(f) => f.name.0 == name.0 && f.ty == *ty,
+        None => false,
+    }
+}
+
+/// The first of some fields that has a type.
+fn first_field(members: &MemberTable, fields: &[u32], ty: &Ty) -> Option<FieldId>
+    ensures { result ≡ option_map spec.field_id (find (index.has_type members.now ty.now) fields.now) }
+{
+    for field in fields {
+        if has_type(members, *field, ty) {
+            return Some(FieldId(*field));
+        }
+    }
+    None
+}
+
+/// The first field of a run that has a name and a type.
+fn field_in_run(
+    members: &MemberTable,
+    first: u32,
+    count: u32,
+    name: NameId,
+    ty: &Ty,
+) -> Option<FieldId>
+    requires { AreFew members.now }
+    ensures { result ≡ option_map spec.field_id (find (spec.is_field members.now name ty.now) (range_with_len first count)) }
+{
+    for k in 0..count {
+        let field = first as usize + k as usize;
+        if is_field(members, field, name, ty) {
+            return Some(FieldId(field as u32));
+        }
+    }
+    None
+}
+
 impl MemberIndex {
-    /// The index of a table of members. Takes memory for some numbers a definition and a member, and time in the
-    /// definitions and their members.
+    /// The index of a table of members. Takes memory for some numbers a definition, and a member of those that have many,
+    /// and time in the definitions and their members.
     pub fn new(alloc: Global, members: &MemberTable) -> Result<MemberIndex, Memory>
         requires { AreFew members.now }
         ensures { IfOk result (IsIndexOf members.now) }
@@ -94,9 +191,9 @@ impl MemberIndex {
         let mut fields = with_room(alloc, members.runs.len())?;
         for r in members.runs.as_slice() {
             let names = method_names.as_slice();
-            methods.push(MemberGroups::new(alloc, names, r.first_method, r.methods)?)?;
+            methods.push(groups_of(alloc, names, r.first_method, r.methods)?)?;
             let names = field_names.as_slice();
-            fields.push(MemberGroups::new(alloc, names, r.first_field, r.fields)?)?;
+            fields.push(groups_of(alloc, names, r.first_field, r.fields)?)?;
         }
         Ok(MemberIndex { methods, fields })
     }
@@ -113,12 +210,14 @@ impl MemberIndex {
         requires { IsIndexOf members.now self.now }
         ensures { result ≡ spec.own_method members.now def name wanted.now }
     {
-        for method in of_def(self.methods.as_slice(), def, name) {
-            if is_wanted(members, *method, wanted) {
-                return Some(MethId(*method));
-            }
+        let run = match members.runs.get(def as usize) {
+            Some(run) => run,
+            None => return None,
+        };
+        match self.methods.get(def as usize) {
+            Some(Some(groups)) => first_method(members, groups.named(name), wanted),
+            _ => method_in_run(members, run.first_method, run.methods, name, wanted),
         }
-        None
     }
 
     /// The first own field of a definition that has a name and a type. Takes no memory, and time in the types of those that
@@ -133,11 +232,13 @@ impl MemberIndex {
         requires { IsIndexOf members.now self.now }
         ensures { result ≡ spec.own_field members.now def name ty.now }
     {
-        for field in of_def(self.fields.as_slice(), def, name) {
-            if has_type(members, *field, ty) {
-                return Some(FieldId(*field));
-            }
+        let run = match members.runs.get(def as usize) {
+            Some(run) => run,
+            None => return None,
+        };
+        match self.fields.get(def as usize) {
+            Some(Some(groups)) => first_field(members, groups.named(name), ty),
+            _ => field_in_run(members, run.first_field, run.fields, name, ty),
         }
-        None
     }
 }

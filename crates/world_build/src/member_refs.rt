@@ -5,8 +5,9 @@ ghost use Rattle.world_build.specs.MemberRefs as spec;
 ghost use Rattle.world_build.specs.References.{member_ref as member_of_row};
 
 use crate::reader::Reader;
-use crate::references::{CLASS, MEMBER_REF, NAME, SIGNATURE, member_ref};
+use crate::references::{CLASS, NAME, SIGNATURE, member_ref};
 use crate::room::with_room;
+use crate::table_numbers::MEMBER_REF;
 use cli_tables::Tables;
 use clr_base::Memory;
 use indexmap::IndexMap;

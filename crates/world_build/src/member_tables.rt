@@ -13,16 +13,14 @@ use crate::definitions::run_of;
 use crate::file_names::FileNames;
 use crate::file_rows::FileRows;
 use crate::member_table::{MemberTable, Run};
-use crate::members::file_members;
-use crate::rows::{METHOD_DEF, TYPE_DEF};
+use crate::members::{push_fields, push_methods};
+use crate::room::with_room;
+use crate::table_numbers::{FIELD, METHOD_DEF, TYPE_DEF};
 use cli_tables::Tables;
 use clr_base::Memory;
 use sqlite_items::Items;
 use std::alloc::Global;
 use type_tree::{Def, Method};
-
-/// The table Field (ECMA-335 II.22.15).
-const FIELD: u8 = 0x04;
 
 /// The run of a definition of the core library.
 fn core_run(def: &Def) -> Run
@@ -36,23 +34,42 @@ fn core_run(def: &Def) -> Run
     }
 }
 
-/// The members of the core library, which has no fields and no generic methods.
-fn core_members(alloc: Global, defs: &[Def], methods: Items<Method>) -> Result<MemberTable, Memory>
+/// How many rows of a table files have.
+fn rows_in(files: &[Tables<'_>], table: u8) -> usize {
+    let mut count: usize = 0;
+    for tables in files {
+        count = count.saturating_add(tables.row_count(table) as usize);
+    }
+    count
+}
+
+/// The members of the core library, which has no fields and no generic methods, with room for those of files.
+fn core_members(
+    alloc: Global,
+    defs: &[Def],
+    core_methods: Items<Method>,
+    files: &[Tables<'_>],
+) -> Result<MemberTable, Memory>
     ensures runs { IfOk result (λ table. table.runs ≡ map spec.core_run defs.now) }
-    ensures methods { IfOk result (λ table. table.methods ≡ methods) }
-    ensures generics { IfOk result (λ table. table.generics ≡ replicate (length methods) 0) }
+    ensures methods { IfOk result (λ table. table.methods ≡ core_methods) }
+    ensures generics { IfOk result (λ table. table.generics ≡ replicate (length core_methods) 0) }
     ensures fields { IfOk result (λ table. table.fields ≡ []) }
 {
     let mut runs = Items::new(alloc);
     for def in defs {
         runs.push(core_run(def))?;
     }
-    let generics = Items::from_vec(vec![in alloc; 0; methods.len()]?);
+    let none = Items::from_vec(vec![in alloc; 0; core_methods.len()]?);
+    let more = rows_in(files, METHOD_DEF);
+    let mut generics = with_room(alloc, more.saturating_add(none.len()))?;
+    generics.append(none)?;
+    let mut methods = with_room(alloc, more.saturating_add(core_methods.len()))?;
+    methods.append(core_methods)?;
     Ok(MemberTable {
         runs,
         methods,
         generics,
-        fields: Items::new(alloc),
+        fields: with_room(alloc, rows_in(files, FIELD))?,
     })
 }
 
@@ -89,10 +106,15 @@ fn push_members(
     ensures fields { OnOk result (table.new.fields ≡ table.old.fields ++ members.file_fields names.now tables.now) }
 {
     let rows = FileRows::new(alloc, tables)?;
-    let found = file_members(alloc, names, tables, &rows)?;
-    table.methods.append(found.methods)?;
-    table.generics.append(found.generics)?;
-    table.fields.append(found.fields)?;
+    push_methods(
+        alloc,
+        names,
+        tables,
+        &rows,
+        &mut table.methods,
+        &mut table.generics,
+    )?;
+    push_fields(alloc, names, tables, &rows, &mut table.fields)?;
     Ok(())
 }
 
@@ -111,7 +133,7 @@ pub fn all_members(
     requires names { names.now ≡ all_file_names files.now }
     ensures { IfOk result (λ table. table ≡ spec.member_table files.now) }
 {
-    let mut table = core_members(alloc, core_defs, core_methods)?;
+    let mut table = core_members(alloc, core_defs, core_methods, files)?;
     let mut fields = 0;
     let mut methods = 0;
     for file in 0..files.len() {

@@ -1,5 +1,5 @@
 //! Methods and fields of files (ECMA-335 II.22.26, II.22.15).
-ghost use Rattle.std.specs.Prelude.{◌≡◌, ◌-◌, ◌≤◌, get_or, IfOk};
+ghost use Rattle.std.specs.Prelude.{◌≡◌, ◌-◌, ◌≤◌, ◌++◌, get_or, IfOk, OnOk};
 ghost use Rattle.cli_tables.specs.Layout.{row_count};
 ghost use Rattle.world_build.specs.Members as spec;
 ghost use Rattle.world_build.specs.RowIndexes.{AreFileRows};
@@ -11,8 +11,7 @@ use crate::file_names::FileNames;
 use crate::file_rows::FileRows;
 use crate::formals::{formals_of, method_owner};
 use crate::owners::owners;
-use crate::room::with_room;
-use crate::rows::METHOD_DEF;
+use crate::table_numbers::{FIELD, FIELD_LIST, METHOD_DEF, METHOD_LIST};
 use crate::trees::{EMPTY_NAME, row_counts, tree, trees, value_or};
 use crate::type_rows::TypeRows;
 use cli_sigs::{SigMethod, SigTy, read_field, read_method};
@@ -21,14 +20,6 @@ use clr_base::{DefId, Memory, NameId};
 use sqlite_items::{Items, at};
 use std::alloc::Global;
 use type_tree::{Field, Method};
-
-/// The table Field (II.22.15).
-const FIELD: u8 = 0x04;
-
-/// The columns of TypeDef (II.22.37) with the first rows of a definition's fields and methods.
-const FIELD_LIST: u8 = 4;
-
-const METHOD_LIST: u8 = 5;
 
 /// The columns of MethodDef (II.22.26) that tell of its flags and its signature.
 const METHOD_FLAGS: u8 = 2;
@@ -39,17 +30,6 @@ const METHOD_SIGNATURE: u8 = 4;
 const FIELD_FLAGS: u8 = 0;
 
 const FIELD_SIGNATURE: u8 = 2;
-
-/// The members that a file's rows are.
-#[derive(Debug, Drop)]
-pub struct FileMembers {
-    /// The methods in its MethodDef rows.
-    pub methods: Items<Method>,
-    /// How many generic parameters the signature of each of them tells.
-    pub generics: Items<u32>,
-    /// The fields in its Field rows.
-    pub fields: Items<Field>,
-}
 
 /// What stands for a method's signature where the blob is none.
 pub(crate) fn no_method(alloc: Global) -> SigMethod
@@ -169,72 +149,48 @@ fn field_of(
     })
 }
 
-/// The methods of a file, and how many generic parameters their signatures tell.
+/// Appends the methods of a file, and how many generic parameters their signatures tell.
 #[tactic(auto, unfolding(crate::specs::Members::file_methods, crate::specs::Members::file_generics, cli_tables::specs::Schema::columns))]
-fn file_methods(
+pub fn push_methods(
     alloc: Global,
     names: &FileNames,
     tables: &Tables<'_>,
     rows: &FileRows,
-) -> Result<(Items<Method>, Items<u32>), Memory>
+    methods: &mut Items<Method>,
+    generics: &mut Items<u32>,
+) -> Result<(), Memory>
     requires numbered { AreNumbered names.now.types }
     requires rows { AreFileRows tables.now rows.now }
-    ensures methods { IfOk result (λ found. found.0 ≡ spec.file_methods names.now tables.now) }
-    ensures generics { IfOk result (λ found. found.1 ≡ spec.file_generics tables.now) }
+    ensures methods { OnOk result (methods.new ≡ methods.old ++ spec.file_methods names.now tables.now) }
+    ensures generics { OnOk result (generics.new ≡ generics.old ++ spec.file_generics tables.now) }
 {
     let owners = owners(alloc, tables, METHOD_LIST, METHOD_DEF)?;
-    let count = tables.row_count(METHOD_DEF);
-    let mut methods = with_room(alloc, count as usize)?;
-    let mut generics = with_room(alloc, count as usize)?;
-    for row in 0..count {
+    for row in 0..tables.row_count(METHOD_DEF) {
         let sig = method_sig(alloc, tables, row + 1)?;
         let def = owners.as_slice()[row as usize];
         methods.push(method_of(alloc, names, tables, rows, &sig, def, row + 1)?)?;
         generics.push(sig.generic)?;
     }
-    Ok((methods, generics))
+    Ok(())
 }
 
-/// The fields of a file.
+/// Appends the fields of a file.
 #[tactic(auto, unfolding(crate::specs::Members::file_fields, cli_tables::specs::Schema::columns))]
-fn file_fields(
+pub fn push_fields(
     alloc: Global,
     names: &FileNames,
     tables: &Tables<'_>,
     rows: &FileRows,
-) -> Result<Items<Field>, Memory>
+    fields: &mut Items<Field>,
+) -> Result<(), Memory>
     requires numbered { AreNumbered names.now.types }
     requires rows { AreFileRows tables.now rows.now }
-    ensures { IfOk result (λ fields. fields ≡ spec.file_fields names.now tables.now) }
+    ensures { OnOk result (fields.new ≡ fields.old ++ spec.file_fields names.now tables.now) }
 {
     let owners = owners(alloc, tables, FIELD_LIST, FIELD)?;
-    let count = tables.row_count(FIELD);
-    let mut fields = with_room(alloc, count as usize)?;
-    for row in 0..count {
+    for row in 0..tables.row_count(FIELD) {
         let def = owners.as_slice()[row as usize];
         fields.push(field_of(alloc, names, tables, rows, def, row + 1)?)?;
     }
-    Ok(fields)
-}
-
-/// The methods and the fields of a file, each row's at its place. Each signature is read once. Takes memory and time in
-/// the rows of the file and in their signatures.
-pub fn file_members(
-    alloc: Global,
-    names: &FileNames,
-    tables: &Tables<'_>,
-    rows: &FileRows,
-) -> Result<FileMembers, Memory>
-    requires numbered { AreNumbered names.now.types }
-    requires rows { AreFileRows tables.now rows.now }
-    ensures methods { IfOk result (λ found. found.methods ≡ spec.file_methods names.now tables.now) }
-    ensures generics { IfOk result (λ found. found.generics ≡ spec.file_generics tables.now) }
-    ensures fields { IfOk result (λ found. found.fields ≡ spec.file_fields names.now tables.now) }
-{
-    let (methods, generics) = file_methods(alloc, names, tables, rows)?;
-    Ok(FileMembers {
-        methods,
-        generics,
-        fields: file_fields(alloc, names, tables, rows)?,
-    })
+    Ok(())
 }

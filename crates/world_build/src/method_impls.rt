@@ -6,10 +6,10 @@ ghost use Rattle.world_build.specs.References as spec;
 ghost use Rattle.world_build.specs.RowIndexes.{AreRows, Indexes};
 
 use crate::cells::{RowOf, coded};
-use crate::file_rows::METHOD_IMPL;
 use crate::named_members::{method_only, named_member, named_owner};
 use crate::reader::Reader;
 use crate::row_index::RowIndex;
+use crate::table_numbers::METHOD_IMPL;
 use cli_tables::CodedIndex;
 use clr_base::Memory;
 use sqlite_items::Items;

@@ -8,6 +8,7 @@ use crate::cells::{RowOf, blob, coded};
 use crate::named_members::{method_only, named_member, named_owner};
 use crate::reader::Reader;
 use crate::references::method_member;
+use crate::table_numbers::METHOD_SPEC;
 use crate::trees::{row_counts, trees, value_or};
 use cli_sigs::read_method_spec;
 use cli_tables::{CodedIndex, Tables};
@@ -16,9 +17,7 @@ use sqlite_items::Items;
 use std::alloc::Global;
 use type_tree::{Key, Member, MethKey, Ty, TyList};
 
-/// The table MethodSpec and its columns Method and Instantiation.
-pub const METHOD_SPEC: u8 = 0x2b;
-
+/// The columns of MethodSpec: Method and Instantiation.
 const METHOD: u8 = 0;
 
 const INSTANTIATION: u8 = 1;

@@ -6,16 +6,13 @@ ghost use Rattle.world_build.specs.References as spec;
 use crate::cells::RowOf;
 use crate::owners::loose;
 use crate::reader::Reader;
-use crate::references::{MEMBER_REF, ref_owner};
-use crate::rows::METHOD_DEF;
+use crate::references::ref_owner;
+use crate::table_numbers::{MEMBER_REF, METHOD_DEF, METHOD_LIST};
 use crate::trees::{def_type, nothing};
 use clr_base::{Memory, MethId};
 use sqlite_items::Items;
 use std::alloc::Global;
 use type_tree::{Member, Ty};
-
-/// The column MethodList of TypeDef (II.22.37).
-const METHOD_LIST: u8 = 5;
 
 /// The member of a MethodDef row: none where no definition owns the row.
 #[tactic(auto, unfolding(cli_tables::specs::Schema::columns))]

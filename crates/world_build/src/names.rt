@@ -48,6 +48,14 @@ impl Names {
         self.set.is_empty()
     }
 
+    /// Makes room for so many more names.
+    pub(crate) fn reserve(&mut self, more: usize) -> Result<(), Memory>
+        ensures { self.new ≡ self.old }
+    {
+        self.set.reserve(more)?;
+        Ok(())
+    }
+
     /// The number of a text, which is added behind the others where it isn't among them. After an error
     /// the names are as they were. Takes time in the text's length, however many names there are.
     pub fn number(&mut self, alloc: Global, text: &str) -> Result<NameId, Memory>

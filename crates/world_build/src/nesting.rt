@@ -2,7 +2,7 @@
 ghost use Rattle.std.specs.Prelude.{◌≡◌, slice_set, IfOk};
 ghost use Rattle.world_build.specs.Nesting as spec;
 
-use crate::rows::{NESTED_CLASS, TYPE_DEF};
+use crate::table_numbers::{NESTED_CLASS, TYPE_DEF};
 use cli_tables::Tables;
 use clr_base::Memory;
 use sqlite_items::Items;

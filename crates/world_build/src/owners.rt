@@ -5,7 +5,7 @@ ghost use Rattle.cli_tables.specs.Layout.{row_count};
 ghost use Rattle.cli_tables.specs.Schema.{columns};
 ghost use Rattle.world_build.specs.Cells as spec;
 
-use crate::rows::TYPE_DEF;
+use crate::table_numbers::TYPE_DEF;
 use cli_tables::Tables;
 use clr_base::Memory;
 use sqlite_items::Items;

@@ -12,7 +12,7 @@ use crate::member_table::MemberTable;
 use crate::names::Names;
 use crate::open_method::Open;
 use crate::owners::owners;
-use crate::rows::METHOD_DEF;
+use crate::table_numbers::{METHOD_DEF, METHOD_LIST};
 use crate::type_rows::TypeRows;
 use cli_tables::Tables;
 use clr_base::{FieldId, Memory, MethId, NameId};
@@ -20,9 +20,6 @@ use sqlite_items::Items;
 use std::alloc::Global;
 use std::marker::Model;
 use type_tree::Ty;
-
-/// The column MethodList of TypeDef (ECMA-335 II.22.37).
-const METHOD_LIST: u8 = 5;
 
 /// What the rows of a file are read by: the names and the members of the world, the types of the file's rows, its tables,
 /// the number of the method in its first MethodDef row, and the owners of these rows. Contracts see all but the owners and

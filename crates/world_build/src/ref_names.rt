@@ -5,12 +5,10 @@ ghost use Rattle.world_build.specs.TypeNames as spec;
 
 use crate::cells::{RowOf, coded, text};
 use crate::full_names::{push_nested, qualified};
+use crate::table_numbers::TYPE_REF;
 use cli_tables::{CodedIndex, Tables};
 use clr_base::{Memory, Text};
 use std::alloc::Global;
-
-/// The table TypeRef.
-pub(crate) const TYPE_REF: u8 = 0x01;
 
 /// The column ResolutionScope of TypeRef.
 const SCOPE: u8 = 0;

@@ -8,17 +8,15 @@ use crate::cells::{RowOf, blob, coded, text};
 use crate::members::no_method;
 use crate::open_method::open_of;
 use crate::reader::Reader;
-use crate::rows::TYPE_DEF;
-use crate::trees::{TYPE_REF, TYPE_SPEC, nothing, row_counts, tree, type_at_row, value_or};
+use crate::table_numbers::{MEMBER_REF, TYPE_DEF, TYPE_REF, TYPE_SPEC};
+use crate::trees::{nothing, row_counts, tree, type_at_row, value_or};
 use cli_sigs::{SigMethod, SigTy, read_field, read_method};
 use cli_tables::{CodedIndex, Tables};
 use clr_base::{FieldId, Memory, MethId, NameId};
 use std::alloc::Global;
 use type_tree::{Member, Ty};
 
-/// The table MemberRef and its columns Class, Name and Signature.
-pub const MEMBER_REF: u8 = 0x0a;
-
+/// The columns of MemberRef: Class, Name and Signature.
 pub const CLASS: u8 = 0;
 
 pub const NAME: u8 = 1;

@@ -8,8 +8,9 @@ ghost use Rattle.world_build.specs.TypeTexts as texts;
 
 use crate::definitions_by_name::{first_core_types, first_defs};
 use crate::names::Names;
-use crate::ref_names::{MOST_SCOPES, TYPE_REF};
+use crate::ref_names::MOST_SCOPES;
 use crate::resolution::DefPlace;
+use crate::table_numbers::TYPE_REF;
 use crate::type_finder::TypeFinder;
 use crate::type_keys::FirstPlaces;
 use crate::type_texts::{FileTexts, core_texts, file_texts};

@@ -9,7 +9,8 @@ ghost use Rattle.world_build.specs.Rows as spec;
 ghost use Rattle.world_build.specs.RowsBefore.{AreNested, AreOwned};
 
 use crate::refusal::Refusal;
-use crate::rows::{GENERIC_PARAM, METHOD_DEF, NESTED_CLASS, TYPE_DEF, check_columns, token};
+use crate::rows::{check_columns, token};
+use crate::table_numbers::{GENERIC_PARAM, METHOD_DEF, NESTED_CLASS, TYPE_DEF};
 use cli_tables::{Tables, TextFaults};
 use clr_base::{FaultKind, ImageFault, check};
 use sqlite_items::Items;

@@ -10,24 +10,10 @@ ghost use Rattle.world_build.specs.Rows as spec;
 
 use crate::refusal::Refusal;
 use crate::row_rules::{check_generic_params, check_nested_classes};
+use crate::table_numbers::{GENERIC_PARAM, NESTED_CLASS, TYPE_DEF, TYPE_REF};
 use cli_tables::{CodedIndex, Column, Tables, TextFaults, columns_of};
 use clr_base::{FaultKind, ImageFault, check};
 use std::alloc::Global;
-
-/// The number of the table TypeRef (II.22.38).
-const TYPE_REF: u8 = 0x01;
-
-/// The number of the table TypeDef (II.22.37).
-pub const TYPE_DEF: u8 = 0x02;
-
-/// The number of the table MethodDef (II.22.26).
-pub const METHOD_DEF: u8 = 0x06;
-
-/// The number of the table NestedClass (II.22.32).
-pub const NESTED_CLASS: u8 = 0x29;
-
-/// The number of the table GenericParam (II.22.20).
-pub const GENERIC_PARAM: u8 = 0x2a;
 
 /// The tables whose rows are checked, in order.
 pub const CHECKED_TABLES: [u8; 17] = [

@@ -5,16 +5,14 @@ ghost use Rattle.world_build.specs.Resolution as resolution;
 ghost use Rattle.world_build.specs.TypeFinders as spec;
 ghost use Rattle.world_build.specs.TypeKeys as keys;
 
-use crate::ref_names::{TYPE_REF, scope};
+use crate::ref_names::scope;
 use crate::resolution::DefPlace;
+use crate::table_numbers::{ASSEMBLY_REF, MODULE, TYPE_REF};
 use crate::type_finder::TypeFinder;
 use crate::type_keys::TypeKey;
-use crate::type_texts::{ASSEMBLY_REF, NameColumns};
+use crate::type_texts::NameColumns;
 use cli_tables::Tables;
 use clr_base::NameId;
-
-/// The table Module (II.22.30).
-const MODULE: u8 = 0x00;
 
 /// The number at a place, 0 where there is none.
 fn number_at(ids: &[NameId], place: usize) -> u32

@@ -8,7 +8,7 @@ ghost use Rattle.world_build.specs.Trees.{AreNumbered};
 use crate::cells::{RowOf, blob, coded};
 use crate::core_type::CoreType;
 use crate::room::with_room;
-use crate::rows::TYPE_DEF;
+use crate::table_numbers::{TYPE_DEF, TYPE_REF, TYPE_SPEC};
 use crate::type_rows::{Target, TypeRows};
 use cli_sigs::{RowCounts, SigFault, SigTy, read_type_spec};
 use cli_tables::{CodedIndex, Tables};
@@ -16,12 +16,6 @@ use clr_base::{DefId, Memory, NameId};
 use sqlite_items::{Boxed, Items, at};
 use std::alloc::Global;
 use type_tree::{Ty, TyList};
-
-/// The table TypeRef (ECMA-335 II.22.38).
-pub(crate) const TYPE_REF: u8 = 0x01;
-
-/// The table TypeSpec (II.22.39).
-pub(crate) const TYPE_SPEC: u8 = 0x1b;
 
 /// The number of the empty name, which stands behind the names of the core.
 pub(crate) const EMPTY_NAME: NameId = NameId(52);

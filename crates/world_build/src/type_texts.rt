@@ -8,22 +8,17 @@ ghost use Rattle.world_build.specs.TypeTexts as spec;
 use crate::core_table::DEF_COUNT;
 use crate::core_texts::{ASSEMBLY_COUNT, core_assembly, core_namespace, core_type_name};
 use crate::names::Names;
-use crate::ref_names::TYPE_REF;
-use crate::rows::TYPE_DEF;
+use crate::table_numbers::{ASSEMBLY, ASSEMBLY_REF, TYPE_DEF, TYPE_REF};
 use crate::text_numbers::number_column;
 use cli_tables::Tables;
 use clr_base::{Memory, NameId};
 use sqlite_items::Items;
 use std::alloc::Global;
 
-/// The table Assembly (ECMA-335 II.22.2) and its column Name.
-const ASSEMBLY: u8 = 0x20;
-
+/// The column Name of Assembly.
 const ASSEMBLY_NAME: u8 = 7;
 
-/// The table AssemblyRef (II.22.5) and its column Name.
-pub(crate) const ASSEMBLY_REF: u8 = 0x23;
-
+/// The column Name of AssemblyRef.
 const ASSEMBLY_REF_NAME: u8 = 6;
 
 /// The columns of TypeDef (II.22.37) and of TypeRef.

@@ -17,7 +17,7 @@ use crate::full_names::full_names;
 use crate::names::Names;
 use crate::ref_names::name_of_ref;
 use crate::resolution::DefPlace;
-use crate::rows::TYPE_DEF;
+use crate::table_numbers::{FIELD, METHOD_DEF, TYPE_DEF, TYPE_REF};
 use crate::text_numbers::number_column;
 use crate::type_rows::{Target, TypeRows};
 use cli_tables::Tables;
@@ -25,17 +25,10 @@ use clr_base::{Memory, NameId};
 use sqlite_items::Items;
 use std::alloc::Global;
 
-/// The table TypeRef (ECMA-335 II.22.38).
-const TYPE_REF: u8 = 0x01;
-
-/// The table Field (II.22.15) and its column Name.
-const FIELD: u8 = 0x04;
-
+/// The column Name of Field.
 const FIELD_NAME: u8 = 1;
 
-/// The table MethodDef (II.22.26) and its column Name.
-const METHOD_DEF: u8 = 0x06;
-
+/// The column Name of MethodDef.
 const METHOD_NAME: u8 = 3;
 
 /// The names of a world, and what the rows of each of its files are called.
@@ -150,6 +143,17 @@ fn file_names(
     })
 }
 
+/// How many names files are expected to give: half as many as they have definitions, fields and methods.
+fn expected_names(files: &[Tables<'_>]) -> usize {
+    let mut count: usize = 0;
+    for tables in files {
+        for table in [TYPE_DEF, FIELD, METHOD_DEF] {
+            count = count.saturating_add(tables.row_count(table) as usize);
+        }
+    }
+    count / 2
+}
+
 /// The names of a world and what the rows of its files are called, by the core's names and by what each TypeRef row of
 /// each file names. Takes memory for the names and a few numbers a row, and time in the rows and in the length of the
 /// names.
@@ -167,6 +171,7 @@ pub fn name_files(
 {
     let defs = DefNumbers::new(alloc, files)?;
     let mut names = core;
+    names.reserve(expected_names(files))?;
     let _empty = names.number(alloc, "")?;
     let mut rows = Items::new(alloc);
     for file in 0..files.len() {

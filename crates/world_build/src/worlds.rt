@@ -9,10 +9,13 @@ ghost use Rattle.world_build.specs.World as spec;
 
 use crate::core_parts::core_library;
 use crate::core_type::CoreType;
+use crate::counts::row_sigs;
 use crate::file_worlds::{Growing, push_files};
 use crate::member_index::MemberIndex;
 use crate::member_tables::all_members;
 use crate::resolve::resolve_files;
+use crate::room::with_room;
+use crate::table_numbers::STAND_ALONE_SIG;
 use crate::world_names::name_files;
 use cli_tables::Tables;
 use clr_base::Memory;
@@ -40,19 +43,38 @@ fn well_known(alloc: Global) -> Result<KeyList, Memory>
     Ok(keys)
 }
 
+/// How many signatures the rows of files have, with four local variables for each row of StandAloneSig (ECMA-335 II.22.36).
+fn expected_sigs(files: &[Tables<'_>]) -> usize {
+    let mut count: usize = 0;
+    for tables in files {
+        let locals = (tables.row_count(STAND_ALONE_SIG) as usize).saturating_mul(4);
+        count = count
+            .saturating_add(row_sigs(tables) as usize)
+            .saturating_add(locals);
+    }
+    count
+}
+
 /// What stands before the parts of files: the definitions of the core, whose so many methods have no bodies, and the
-/// signatures that every world has.
-fn of_core(alloc: Global, defs: Items<Def>, methods: usize) -> Result<Growing, Memory>
+/// signatures that every world has, with room for those of files.
+fn of_core(
+    alloc: Global,
+    defs: Items<Def>,
+    methods: usize,
+    files: &[Tables<'_>],
+) -> Result<Growing, Memory>
     ensures defs { IfOk result (λ parts. parts.defs ≡ defs) }
     ensures bodies { IfOk result (λ parts. parts.bodies ≡ replicate methods spec.no_body) }
     ensures sigs { IfOk result (λ parts. parts.sigs ≡ signatures.well_known) }
     ensures files { IfOk result (λ parts. parts.files ≡ []) }
 {
     let none: Option<BodyPlace> = None;
+    let mut sigs = with_room(alloc, expected_sigs(files).saturating_add(3))?;
+    sigs.append(well_known(alloc)?)?;
     Ok(Growing {
         defs,
         bodies: Items::from_vec(vec![in alloc; none; methods]?),
-        sigs: well_known(alloc)?,
+        sigs,
         files: Items::new(alloc),
     })
 }
@@ -78,7 +100,7 @@ pub fn file_world(
     let called = named.files.as_slice();
     let members = all_members(alloc, core_defs.as_slice(), core_methods, tables, called)?;
     let index = MemberIndex::new(alloc, &members)?;
-    let mut parts = of_core(alloc, core_defs, method_count)?;
+    let mut parts = of_core(alloc, core_defs, method_count, tables)?;
     push_files(
         alloc,
         &named.names,

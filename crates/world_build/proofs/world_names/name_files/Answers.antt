@@ -10,13 +10,13 @@ use Rattle.world_build.proofs.FileRows.{begun_few, core_count, names_all, names_
 use Rattle.world_build.proofs.world_names.name_files.Goals as goal
 
 pub number-requires : goal.number-requires
-number-requires c = omega (arith, ap length c.requires.core, core_count)
+number-requires c = omega (arith, ap length (c.in_ok-reserve.ensures ∙ c.requires.core), core_count)
 
 pub loop-file-init : goal.loop-file-init
 loop-file-init c = record {
   names = refl;
   rows = record { is = λ more. c.new-rows.ensures };
-  few = omega (arith, begun_few c.number.new.self c.args.core c.requires.core c.in_ok-_empty.ensures.kept);
+  few = omega (arith, begun_few c.number.new.self c.reserve.new.self (c.in_ok-reserve.ensures ∙ c.requires.core) c.in_ok-_empty.ensures.kept);
 }
 
 pub file_names-requires-clause-file : goal.file_names-requires-clause-file
@@ -50,12 +50,12 @@ pub returns-clause-names : goal.returns-clause-names
 returns-clause-names c =
     let all : c.loop-file.file ≡ length c.args.files.now = omega arith in
     names_all c.args.files.now c.loop-file.file c.number.new.self c.loop-file.names all
-    (c.in_ok-_empty.ensures.kept ∙ ap (λ (core : List (List ℕ)). with_one bytes_eq core []) c.requires.core) c.loop-file.invariant.names
+    (c.in_ok-_empty.ensures.kept ∙ ap (λ (core : List (List ℕ)). with_one bytes_eq core []) (c.in_ok-reserve.ensures ∙ c.requires.core)) c.loop-file.invariant.names
 
 pub returns-clause-files : goal.returns-clause-files
 returns-clause-files c =
     let all : c.loop-file.file ≡ length c.args.files.now = omega arith in
     rows_all c.args.files.now c.loop-file.file c.loop-file.names c.loop-file.rows all
     (names_all c.args.files.now c.loop-file.file c.number.new.self c.loop-file.names all
-    (c.in_ok-_empty.ensures.kept ∙ ap (λ (core : List (List ℕ)). with_one bytes_eq core []) c.requires.core) c.loop-file.invariant.names)
+    (c.in_ok-_empty.ensures.kept ∙ ap (λ (core : List (List ℕ)). with_one bytes_eq core []) (c.in_ok-reserve.ensures ∙ c.requires.core)) c.loop-file.invariant.names)
     c.loop-file.invariant.rows

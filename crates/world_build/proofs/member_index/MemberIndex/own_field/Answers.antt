@@ -1,32 +1,27 @@
-use Rattle.std.proofs.Common.{ℕ, List, sym, ap, ◌∙◌, arith}
+use Rattle.std.proofs.Common.{◌≡◌, ℕ, List, Some, slice_get, sym, ap, ◌∙◌}
 use Rattle.std.specs.List.{find}
 use Rattle.std.specs.Option.{option_map}
-use Rattle.world_build.specs.MemberIndexes.{of_def, has_type}
-use Rattle.world_build.proofs.FirstFound.{found_here, none_more, none_at_all}
-use Rattle.world_build.proofs.MemberFinds.{field_id, field_found}
+use Rattle.world_build.specs.MemberIndexes.{has_type}
+use Rattle.world_build.specs.MemberTable.{field_id}
+use Rattle.world_build.proofs.MemberFinds.{field_found, field_of_run, field_of_none}
 use Rattle.world_build.proofs.member_index.MemberIndex.own_field.Goals as goal
 
-pub returns-then-has_type : goal.returns-then-has_type
-returns-then-has_type c =
-    let w = c.args.members.now in
-    let p = has_type w c.args.ty.now in
-    let xs = c.of_def-field-items.result.now in
-    let found = found_here p xs c.loop-field.field-index (omega arith) c.loop-field.invariant (sym c.has_type.ensures ∙ c.if-has_type.true) in
-    ap (option_map field_id) (sym found)
-    ∙ ap (λ (ys : List ℕ). option_map field_id (find p ys)) (c.of_def-field-items.ensures ∙ ap (λ gs. of_def gs c.args.def c.args.name) c.as_slice.ensures)
-    ∙ field_found w c.args.self.now c.requires c.args.def c.args.name c.args.ty.now
+pub returns-in-None : goal.returns-in-None
+returns-in-None c = field_of_none c.args.members.now c.args.def c.args.name c.args.ty.now (sym c.in-None.ensures.value)
 
-pub loop-field-preserved : goal.loop-field-preserved
-loop-field-preserved c =
-    none_more (has_type c.args.members.now c.args.ty.now) c.of_def-field-items.result.now c.loop-field.field-index (omega arith) c.loop-field.invariant
-    (sym c.has_type.ensures ∙ c.if-has_type.false)
-
-pub returns : goal.returns
-returns c =
+pub returns-in-Some-Some : goal.returns-in-Some-Some
+returns-in-Some-Some c =
     let w = c.args.members.now in
-    let p = has_type w c.args.ty.now in
-    let xs = c.of_def-field-items.result.now in
-    let found = none_at_all p xs c.loop-field.field-index (omega arith) c.loop-field.invariant in
-    ap (option_map field_id) (sym found)
-    ∙ ap (λ (ys : List ℕ). option_map field_id (find p ys)) (c.of_def-field-items.ensures ∙ ap (λ gs. of_def gs c.args.def c.args.name) c.as_slice.ensures)
-    ∙ field_found w c.args.self.now c.requires c.args.def c.args.name c.args.ty.now
+    let r = c.in-Some.run'.now in
+    let g = c.in-Some-Some.groups in
+    let run : slice_get w.runs c.args.def ≡ Some r = sym c.in-Some.ensures.value in
+    let own : slice_get c.args.self.now.fields c.args.def ≡ Some (Some g) = sym c.in-Some-Some.ensures.value ∙ ap Some c.in-Some-Some.field-0-is in
+    c.first_field.ensures
+    ∙ ap (λ (xs : List ℕ). option_map field_id (find (has_type w c.args.ty.now) xs)) c.named.ensures
+    ∙ ap (option_map field_id) (field_found w r g (c.requires.fields c.args.def r g run own) c.args.name c.args.ty.now)
+    ∙ field_of_run w c.args.def r c.args.name c.args.ty.now run
+
+pub returns-in_default : goal.returns-in_default
+returns-in_default c =
+    c.field_in_run.ensures
+    ∙ field_of_run c.args.members.now c.args.def c.in-Some.run'.now c.args.name c.args.ty.now (sym c.in-Some.ensures.value)

@@ -1,32 +1,27 @@
-use Rattle.std.proofs.Common.{ℕ, List, sym, ap, ◌∙◌, arith}
+use Rattle.std.proofs.Common.{◌≡◌, ℕ, List, Some, slice_get, sym, ap, ◌∙◌}
 use Rattle.std.specs.List.{find}
 use Rattle.std.specs.Option.{option_map}
-use Rattle.world_build.specs.MemberIndexes.{of_def, is_wanted}
-use Rattle.world_build.proofs.FirstFound.{found_here, none_more, none_at_all}
-use Rattle.world_build.proofs.MemberFinds.{method_id, method_found}
+use Rattle.world_build.specs.MemberIndexes.{is_wanted}
+use Rattle.world_build.specs.MemberTable.{method_id}
+use Rattle.world_build.proofs.MemberFinds.{method_found, method_of_run, method_of_none}
 use Rattle.world_build.proofs.member_index.MemberIndex.own_method.Goals as goal
 
-pub returns-then-is_wanted : goal.returns-then-is_wanted
-returns-then-is_wanted c =
-    let w = c.args.members.now in
-    let p = is_wanted w c.args.wanted.now in
-    let xs = c.of_def-method-items.result.now in
-    let found = found_here p xs c.loop-method.method-index (omega arith) c.loop-method.invariant (sym c.is_wanted.ensures ∙ c.if-is_wanted.true) in
-    ap (option_map method_id) (sym found)
-    ∙ ap (λ (ys : List ℕ). option_map method_id (find p ys)) (c.of_def-method-items.ensures ∙ ap (λ gs. of_def gs c.args.def c.args.name) c.as_slice.ensures)
-    ∙ method_found w c.args.self.now c.requires c.args.def c.args.name c.args.wanted.now
+pub returns-in-None : goal.returns-in-None
+returns-in-None c = method_of_none c.args.members.now c.args.def c.args.name c.args.wanted.now (sym c.in-None.ensures.value)
 
-pub loop-method-preserved : goal.loop-method-preserved
-loop-method-preserved c =
-    none_more (is_wanted c.args.members.now c.args.wanted.now) c.of_def-method-items.result.now c.loop-method.method-index (omega arith) c.loop-method.invariant
-    (sym c.is_wanted.ensures ∙ c.if-is_wanted.false)
-
-pub returns : goal.returns
-returns c =
+pub returns-in-Some-Some : goal.returns-in-Some-Some
+returns-in-Some-Some c =
     let w = c.args.members.now in
-    let p = is_wanted w c.args.wanted.now in
-    let xs = c.of_def-method-items.result.now in
-    let found = none_at_all p xs c.loop-method.method-index (omega arith) c.loop-method.invariant in
-    ap (option_map method_id) (sym found)
-    ∙ ap (λ (ys : List ℕ). option_map method_id (find p ys)) (c.of_def-method-items.ensures ∙ ap (λ gs. of_def gs c.args.def c.args.name) c.as_slice.ensures)
-    ∙ method_found w c.args.self.now c.requires c.args.def c.args.name c.args.wanted.now
+    let r = c.in-Some.run'.now in
+    let g = c.in-Some-Some.groups in
+    let run : slice_get w.runs c.args.def ≡ Some r = sym c.in-Some.ensures.value in
+    let own : slice_get c.args.self.now.methods c.args.def ≡ Some (Some g) = sym c.in-Some-Some.ensures.value ∙ ap Some c.in-Some-Some.field-0-is in
+    c.first_method.ensures
+    ∙ ap (λ (xs : List ℕ). option_map method_id (find (is_wanted w c.args.wanted.now) xs)) c.named.ensures
+    ∙ ap (option_map method_id) (method_found w r g (c.requires.methods c.args.def r g run own) c.args.name c.args.wanted.now)
+    ∙ method_of_run w c.args.def r c.args.name c.args.wanted.now run
+
+pub returns-in_default : goal.returns-in_default
+returns-in_default c =
+    c.method_in_run.ensures
+    ∙ method_of_run c.args.members.now c.args.def c.in-Some.run'.now c.args.name c.args.wanted.now (sym c.in-Some.ensures.value)
