@@ -1,25 +1,30 @@
 //! Worlds that are built of drafts, and what stands in them.
 use crate::kit::Row;
-use clr_base::SigId;
+use clr_base::{MethId, SigId};
 use image_write::{Draft, write_image};
 use std::alloc::{AllocError, Global};
 use std::process::Abort;
 use std::test::Fail;
-use type_tree::{Key, Token, Ty, World};
+use type_tree::{Key, Root, Token, Ty, World};
 use world_build::{BuildFault, RootForm, build};
 
+/// The image of a draft, which must fit.
+pub fn image_of(rt: &impl Abort, alloc: Global, draft: &Draft) -> Result<Vec<u8>, Fail> {
+    assert!(rt; draft.fits());
+    Ok(write_image(alloc, draft)?)
+}
+
 /// The images of drafts, which must fit.
-fn images(rt: &impl Abort, alloc: Global, drafts: &[Draft]) -> Result<Vec<Vec<u8>>, Fail> {
+pub fn images_of(rt: &impl Abort, alloc: Global, drafts: &[Draft]) -> Result<Vec<Vec<u8>>, Fail> {
     let mut images = Vec::new(alloc);
     for draft in drafts {
-        assert!(rt; draft.fits());
-        images.push(write_image(alloc, draft)?)?;
+        images.push(image_of(rt, alloc, draft)?)?;
     }
     Ok(images)
 }
 
 /// Words of one's own.
-fn owned(alloc: Global, words: &[&str]) -> Result<Vec<String>, AllocError> {
+pub fn owned(alloc: Global, words: &[&str]) -> Result<Vec<String>, AllocError> {
     let mut list = Vec::new(alloc);
     for word in words {
         list.push(String::from_str(alloc, word)?)?;
@@ -35,7 +40,7 @@ pub fn built(
     form: RootForm,
     words: &[&str],
 ) -> Result<Result<World, BuildFault>, Fail> {
-    let files = images(rt, alloc, drafts)?;
+    let files = images_of(rt, alloc, drafts)?;
     let roots = owned(alloc, words)?;
     assert!(rt; files.len() <= 16 && roots.len() <= 256);
     Ok(build(alloc, files.as_slice(), form, roots.as_slice()))
@@ -59,6 +64,13 @@ pub fn tree_of<'a>(rt: &impl Abort, world: &'a World, sig: SigId) -> &'a Ty {
         Key::Tree(t) => t,
         Key::Meth(_) => panic!(rt; "a method's key"),
     }
+}
+
+/// Tests a root: its signature, and its method.
+pub fn assert_root(rt: &impl Abort, world: &World, number: u32, sig: u32, method: Option<MethId>) {
+    assert!(rt; number < world.root_count());
+    let sig = SigId(sig);
+    assert_eq!(rt; world.root(number), Root { sig, method });
 }
 
 /// What a row of a file names, which must exist.

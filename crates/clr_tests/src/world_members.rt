@@ -1,5 +1,5 @@
 //! Roots, members and signatures in the worlds of files.
-use crate::built::{built, token_of, tree_of, world_of};
+use crate::built::{assert_root, built, token_of, tree_of, world_of};
 use crate::kit::{Assembly, Row, methods, types};
 use crate::written::equatable;
 use clr_base::{FieldId, MethId, SigId};
@@ -7,7 +7,7 @@ use image_write::Draft;
 use std::alloc::{AllocError, Global};
 use std::process::Abort;
 use std::test::Fail;
-use type_tree::{Member, Root, World, type_text};
+use type_tree::{Member, World, type_text};
 use world_build::{BuildFault, RootForm};
 
 const STATIC: u32 = methods::PUBLIC | methods::STATIC;
@@ -38,13 +38,6 @@ fn program(alloc: Global, mains: &[(&str, &[(u32, &[u8])])]) -> Result<Draft, Al
         }
     }
     kit.draft()
-}
-
-/// Tests a root.
-fn assert_root(rt: &impl Abort, world: &World, number: u32, sig: u32, method: Option<MethId>) {
-    assert!(rt; number < world.root_count());
-    let sig = SigId(sig);
-    assert_eq!(rt; world.root(number), Root { sig, method });
 }
 
 /// Tests the texts of all signatures.

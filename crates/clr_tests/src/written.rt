@@ -1,22 +1,15 @@
 //! Drafts that are written, and what is read of their images.
 ghost use Rattle.std.specs.Prelude.{◌≡◌, true};
 
+use crate::built::image_of;
 use crate::kit::{Assembly, NOTHING, Row, methods, types};
 use crate::run::{NOTHING_FAILS, Ran, run};
 use crate::signatures::{BOOLEAN, HAS_THIS, INT32, class, field, instance, method, var};
 use cli_tables::{Tables, columns_of};
 use clr_core::Status;
-use image_write::{Draft, write_image};
 use std::alloc::{AllocError, Global};
-use std::process::Abort;
 use std::test::Fail;
 use std::thread::Threads;
-
-/// The image of a draft, which must fit.
-fn image(rt: &impl Abort, alloc: Global, draft: &Draft) -> Result<Vec<u8>, Fail> {
-    assert!(rt; draft.fits());
-    Ok(write_image(alloc, draft)?)
-}
 
 /// A cell of a table, where it has one there. Rows count from 1.
 fn cell(tables: &Tables<'_>, row: Row, column: u8) -> Option<u32> {
@@ -44,7 +37,7 @@ fn fields_up_to_wide_lists(rt: HostRuntime) -> Result<(), Fail> {
         }
         let mut draft = kit.draft()?;
         draft.plus = plus;
-        let image = image(&rt, rt.alloc(), &draft)?;
+        let image = image_of(&rt, rt.alloc(), &draft)?;
         let ran = run(&rt, rt.alloc(), &["names", "m.dll"], &image, NOTHING_FAILS)?;
         assert_eq!(rt; ran.status, Status::Done);
         assert_eq!(rt; ran.out.as_slice(), b"m.dll\n  <Module>\n".as_slice());
@@ -70,7 +63,7 @@ pub fn equatable(alloc: Global) -> Result<Assembly, AllocError> {
 #[test]
 fn a_class_that_implements(rt: HostRuntime) -> Result<(), Fail> {
     let draft = equatable(rt.alloc())?.draft()?;
-    let image = image(&rt, rt.alloc(), &draft)?;
+    let image = image_of(&rt, rt.alloc(), &draft)?;
     let ran = run(&rt, rt.alloc(), &["names", "m.dll"], &image, NOTHING_FAILS)?;
     assert_eq!(rt; ran.out.as_slice(), b"m.dll\n  <Module>\n  C\n".as_slice());
     assert!(rt; image.len() >= 584);
@@ -110,7 +103,7 @@ fn nested_and_generic(alloc: Global) -> Result<Assembly, AllocError> {
 #[test]
 fn nested_and_generic_types(rt: HostRuntime) -> Result<(), Fail> {
     let draft = nested_and_generic(rt.alloc())?.draft()?;
-    let image = image(&rt, rt.alloc(), &draft)?;
+    let image = image_of(&rt, rt.alloc(), &draft)?;
     let ran = run(&rt, rt.alloc(), &["names", "m.dll"], &image, NOTHING_FAILS)?;
     assert_eq!(rt;
         ran.out.as_slice(),
@@ -156,7 +149,7 @@ fn full_names(rt: HostRuntime) -> Result<(), Fail> {
         (&[(4, 2), (3, 2)], b"  Ns.A\n  Ns.A+B\n  Ns.A+C\n"),
     ] {
         let draft = nested(rt.alloc(), rows)?.draft()?;
-        let image = image(&rt, rt.alloc(), &draft)?;
+        let image = image_of(&rt, rt.alloc(), &draft)?;
         let ran = run(&rt, rt.alloc(), &["names", "m.dll"], &image, NOTHING_FAILS)?;
         assert_eq!(rt; ran.status, Status::Done);
         assert_eq!(rt;

@@ -95,16 +95,3 @@ pub use signature_checks::{SIG_COLUMNS, SigColumn, SigKind, check_signatures};
 pub use type_rows::{Target, TypeRows};
 pub use world_laws::{definitions_called_by_their_rows, type_names_are_texts};
 pub use world_names::{WorldNames, name_files};
-
-#[cfg(test)]
-mod definition_tests;
-#[cfg(test)]
-mod image_tests;
-#[cfg(test)]
-mod member_tests;
-#[cfg(test)]
-mod root_tests;
-#[cfg(test)]
-mod row_tests;
-#[cfg(test)]
-mod tests;

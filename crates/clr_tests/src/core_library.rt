@@ -1,10 +1,11 @@
 //! The core library, written out as ILAsm would declare it.
-use super::*;
 use clr_base::{Memory, Text};
 use sqlite_items::Items;
 use std::alloc::Global;
+use std::process::Abort;
 use std::test::Fail;
-use type_tree::{Def, Method, Ty, World, WorldParts};
+use type_tree::{Def, Method, Ty};
+use world_build::{CoreParts, core_library};
 
 /// Each definition: its flags, its name, the flags of its generic parameter, and what it extends and
 /// implements. `*` stands for the interfaces of a type that can be compared with itself.
@@ -115,7 +116,8 @@ const METHODS: [(u32, &str); 43] = [
     (35, "0x16 System.Void Write(System.Char)"),
 ];
 
-fn name(names: &Items<Text>, number: u32) -> &str {
+/// The name with a number.
+pub fn name(names: &Items<Text>, number: u32) -> &str {
     match names.get(number as usize) {
         Some(name) => name.as_str(),
         None => "no name",
@@ -233,113 +235,53 @@ fn wanted_lines(alloc: Global, number: u32, own: &str) -> Result<Vec<String>, Me
     Ok(lines)
 }
 
+/// Tests the method with a number: its owner, and its line.
+fn assert_method(
+    rt: &impl Abort,
+    alloc: Global,
+    parts: &CoreParts,
+    names: &Items<Text>,
+    number: u32,
+    owner: u32,
+    line: &str,
+) -> Result<(), Fail> {
+    let method = parts.methods.get(number as usize).ok_or("no method")?;
+    assert_eq!(rt; method.def.0, owner, "{line}");
+    assert_eq!(rt; method_line(alloc, names, method)?.as_str(), line);
+    Ok(())
+}
+
+/// Tests the methods of the definition with a number, before whose own so many stand. Gives how many stand behind them.
+fn assert_methods(
+    rt: &impl Abort,
+    alloc: Global,
+    parts: &CoreParts,
+    names: &Items<Text>,
+    number: u32,
+    before: u32,
+) -> Result<u32, Fail> {
+    let def = parts.defs.get(number as usize).ok_or("no definition")?;
+    let own = name(names, def.name.0);
+    assert_eq!(rt; def.first_method, before, "{own}");
+    let mut next = before;
+    for line in wanted_lines(alloc, number, own)?.iter() {
+        assert_method(rt, alloc, parts, names, next, number, line.as_str())?;
+        next = next.saturating_add(1);
+    }
+    assert_eq!(rt; def.methods, next.saturating_sub(before), "{own}");
+    Ok(next)
+}
+
 #[test]
 fn methods_of_the_core(rt: HostRuntime) -> Result<(), Fail> {
     let alloc = rt.alloc();
     let parts = core_library(alloc)?;
     let names = parts.names.texts(alloc)?;
-    let mut next: usize = 0;
-    for (def, number) in parts.defs.as_slice().iter().zip(0u32..36) {
-        let own = name(&names, def.name.0);
-        let lines = wanted_lines(alloc, number, own)?;
-        assert_eq!(rt; def.first_method as usize, next, "{own}");
-        assert_eq!(rt; def.methods as usize, lines.len(), "{own}");
-        for line in lines.iter() {
-            let method = parts.methods.get(next).ok_or("no method")?;
-            assert_eq!(rt; method_line(alloc, &names, method)?.as_str(), line.as_str());
-            assert_eq!(rt; method.def.0, number);
-            next = next.wrapping_add(1);
-        }
+    let mut next = 0;
+    for number in 0..36 {
+        next = assert_methods(&rt, alloc, &parts, &names, number, next)?;
     }
     assert_eq!(rt; next, 98);
     assert_eq!(rt; parts.methods.len(), 98);
-    Ok(())
-}
-
-#[test]
-fn names_of_the_core(rt: HostRuntime) -> Result<(), Fail> {
-    let names = core_library(rt.alloc())?.names.texts(rt.alloc())?;
-    assert_eq!(rt; names.len(), 52);
-    for (number, wanted) in [
-        (0, "System.Object"),
-        (25, "System.Collections.Generic.IComparer`1"),
-        (35, "System.Console"),
-        (36, ".ctor"),
-        (37, "ToString"),
-        (41, "CompareTo"),
-        (51, "Write"),
-    ] {
-        assert_eq!(rt; name(&names, number), wanted);
-    }
-    Ok(())
-}
-
-#[test]
-fn names_once_each(rt: HostRuntime) -> Result<(), Fail> {
-    let alloc = rt.alloc();
-    let mut names = Names::new(alloc);
-    for (text, number, len) in [
-        ("B", 0, 1),
-        ("A", 1, 2),
-        ("B", 0, 2),
-        ("", 2, 3),
-        ("A", 1, 3),
-    ] {
-        assert!(rt; names.len() < 10);
-        assert_eq!(rt; names.number(alloc, text)?.0, number, "{text}");
-        assert_eq!(rt; names.len(), len);
-    }
-    let texts = names.texts(alloc)?;
-    assert_eq!(rt; name(&texts, 0), "B");
-    assert_eq!(rt; name(&texts, 1), "A");
-    assert_eq!(rt; name(&texts, 2), "");
-    Ok(())
-}
-
-/// The core library alone, with a body for no method.
-fn world_of_the_core(alloc: Global) -> Result<WorldParts, Memory> {
-    let CoreParts {
-        names,
-        defs,
-        methods,
-        fields,
-    } = core_library(alloc)?;
-    let mut bodies = Items::new(alloc);
-    for _ in methods.as_slice() {
-        bodies.push(None)?;
-    }
-    Ok(WorldParts {
-        names: names.texts(alloc)?,
-        defs,
-        methods,
-        bodies,
-        fields,
-        sigs: Items::new(alloc),
-        roots: Items::new(alloc),
-        files: Items::new(alloc),
-        value_type: CoreType::ValueType.def(),
-        enumeration: CoreType::Enum.def(),
-        canon: CoreType::Canon.def(),
-    })
-}
-
-#[test]
-fn the_core_alone_is_a_world(rt: HostRuntime) -> Result<(), Fail> {
-    let parts = world_of_the_core(rt.alloc())?;
-    assert!(rt; parts.is_whole());
-    let world = World::new(parts);
-    for (t, value) in [
-        (CoreType::Object, false),
-        (CoreType::ValueType, false),
-        (CoreType::Enum, false),
-        (CoreType::Void, true),
-        (CoreType::Double, true),
-        (CoreType::String, false),
-        (CoreType::RuntimeTypeHandle, true),
-        (CoreType::IDisposable, false),
-        (CoreType::Nullable, true),
-    ] {
-        assert_eq!(rt; world.is_value_def(t.def()), value, "{t:?}");
-    }
     Ok(())
 }
