@@ -4,7 +4,7 @@ use Rattle.std.specs.Prelude.{slice_get}
 use Rattle.clr_base.specs.declared.image_fault.ImageFault.{ImageFault}
 use Rattle.clr_base.specs.Checks.{first_fault}
 use Rattle.cli_tables.specs.Metadata.{Metadata}
-use Rattle.world_build.specs.Image.{metadata_in}
+use Rattle.image_rows.specs.Image.{metadata_in}
 use Rattle.world_build.specs.Images.{file_checks, images_behind, images_of, or_fault}
 use Rattle.world_build.specs.Build.{GivesWorld}
 use Rattle.world_build.specs.declared.building.BuildFault.{BuildFault}

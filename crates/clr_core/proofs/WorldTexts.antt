@@ -7,7 +7,7 @@ use Rattle.type_tree.specs.World.{Facts}
 use Rattle.world_build.specs.declared.roots.RootForm.{RootForm}
 use Rattle.world_build.specs.Build.{AreTaken}
 use Rattle.world_build.specs.DefNames.{names_in}
-use Rattle.world_build.specs.Image.{metadata_in}
+use Rattle.image_rows.specs.Image.{metadata_in}
 use Rattle.world_build.specs.Roots.{HasRoots}
 use Rattle.world_build.specs.World.{tables_in, world}
 use Rattle.world_build.proofs.NamesOfDefs.{names_of_file}

@@ -4,10 +4,10 @@ use Rattle.std.specs.List.{flat_map, enumerate_from, zip}
 use Rattle.clr_base.specs.declared.image_fault.ImageFault.{ImageFault}
 use Rattle.cli_tables.specs.Metadata.{Metadata}
 use Rattle.type_tree.specs.World.{Facts}
-use Rattle.world_build.specs.Cells.{rows_of}
+use Rattle.image_rows.specs.Cells.{rows_of}
 use Rattle.world_build.specs.DefNames.{names_in}
 use Rattle.world_build.specs.Images.{images_of}
-use Rattle.world_build.specs.TypeNames.{full_name}
+use Rattle.image_rows.specs.TypeNames.{full_name}
 
 -- a full name on a line of its own
 unfoldable pub name_line : List ℕ → List ℕ

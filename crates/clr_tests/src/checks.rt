@@ -2,11 +2,11 @@
 use crate::built::image_of;
 use crate::kit::{Assembly, NOTHING, Row, types};
 use clr_base::{Bytes, FaultKind, ImageFault};
+use image_rows::{Refusal, read_image};
 use image_write::{CellList, Draft};
 use std::alloc::{AllocError, Global};
 use std::process::Abort;
 use std::test::Fail;
-use world_build::{Refusal, read_image};
 
 /// The heap of texts: `m.dll` at 1, `mscorlib` at 7, `<Module>` at 16, `A` at 25, `B` at 27. The text at 29 isn't UTF-8,
 /// and the one at 31, where the heap ends, has no zero behind it.

@@ -1,11 +1,11 @@
 //! The core library, written out as ILAsm would declare it.
 use clr_base::{Memory, Text};
+use core_types::{CoreParts, core_library};
 use sqlite_items::Items;
 use std::alloc::Global;
 use std::process::Abort;
 use std::test::Fail;
 use type_tree::{Def, Method, Ty};
-use world_build::{CoreParts, core_library};
 
 /// Each definition: its flags, its name, the flags of its generic parameter, and what it extends and
 /// implements. `*` stands for the interfaces of a type that can be compared with itself.

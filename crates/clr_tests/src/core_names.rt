@@ -1,7 +1,7 @@
 //! Names, each text once: those of the core library, and what is added.
 use crate::core_library::name;
+use core_types::{Names, core_library};
 use std::test::Fail;
-use world_build::{Names, core_library};
 
 #[test]
 fn names_of_the_core(rt: HostRuntime) -> Result<(), Fail> {

@@ -1,10 +1,10 @@
 //! A world of the core library alone.
 use clr_base::Memory;
+use core_types::{CoreParts, CoreType, core_library};
 use sqlite_items::Items;
 use std::alloc::Global;
 use std::test::Fail;
 use type_tree::{World, WorldParts};
-use world_build::{CoreParts, CoreType, core_library};
 
 /// The core library alone, with a body for no method.
 fn world_of_the_core(alloc: Global) -> Result<WorldParts, Memory> {

@@ -13,6 +13,7 @@ mod lookup;
 mod measure;
 mod parts;
 mod read_text;
+mod room;
 mod subst_measure;
 mod substitution;
 #[cfg(test)]
@@ -44,6 +45,7 @@ pub use laws::{
 pub use measure::{depth, depth_of_all, depth_of_key, weight, weight_of_all, weight_of_key};
 pub use parts::{BodyPlace, Locals, Member, Root, Token, WorldFile, WorldParts};
 pub use read_text::read_type_text;
+pub use room::with_room;
 pub use subst_measure::{subst_depth, subst_weight};
 pub use substitution::{subst, subst_all, subst_ty};
 pub use text::type_text;

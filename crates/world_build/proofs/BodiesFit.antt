@@ -17,9 +17,9 @@ use Rattle.type_tree.specs.Bodies.{bytes_of}
 use Rattle.type_tree.specs.Tokens.{file_at}
 use Rattle.type_tree.specs.Whole.{place_fits}
 use Rattle.world_build.specs.Bodies.{place_in, range_if, body_of}
-use Rattle.world_build.specs.Cells.{at}
-use Rattle.world_build.proofs.Inside.{inside_by}
-use Rattle.world_build.proofs.ListFacts.{choose}
+use Rattle.image_rows.specs.Cells.{at}
+use Rattle.image_rows.proofs.Inside.{inside_by}
+use Rattle.clr_base.proofs.ListFacts.{choose}
 
 placed_inside : (bytes : List ℕ) (rva n start : ℕ) → place_by bytes (sections bytes) rva n ≡ Some start → start + n ≤ length bytes
 unfolding place_by

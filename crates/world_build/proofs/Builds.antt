@@ -10,17 +10,17 @@ use Rattle.type_tree.specs.declared.parts.Root.{Root}
 use Rattle.type_tree.specs.declared.parts.WorldFile.{WorldFile}
 use Rattle.type_tree.specs.declared.parts.WorldParts.{WorldParts}
 use Rattle.type_tree.specs.declared.tree.Key.{Key}
-use Rattle.world_build.specs.declared.core_type.CoreType.TheVariants as known
-use Rattle.world_build.specs.declared.member_table.MemberTable.{MemberTable}
+use Rattle.core_types.specs.declared.core_type.CoreType.TheVariants as known
+use Rattle.type_members.specs.declared.member_table.MemberTable.{MemberTable}
 use Rattle.world_build.specs.Bodies.{file_bodies}
-use Rattle.world_build.specs.CoreLibrary as core
-use Rattle.world_build.specs.CoreTable.{def_id}
+use Rattle.core_types.specs.CoreLibrary as core
+use Rattle.core_types.specs.CoreTable.{def_id}
 use Rattle.world_build.specs.Counts.{are_few, totals_of}
-use Rattle.world_build.specs.MemberIndexes as index
-use Rattle.world_build.specs.MemberTable.{member_table, of_each}
+use Rattle.type_members.specs.MemberIndexes as index
+use Rattle.type_members.specs.MemberTable.{member_table, of_each}
 use Rattle.world_build.specs.Signatures.{file_keys, well_known}
 use Rattle.world_build.specs.World.{file_defs, no_body, of_bytes, reader, tables_in, world, world_file}
-use Rattle.world_build.specs.WorldNames.{names}
+use Rattle.type_names.specs.WorldNames.{names}
 use Rattle.world_build.proofs.FewEnough.{are_below}
 use Rattle.world_build.proofs.FewMembers.{few_members}
 

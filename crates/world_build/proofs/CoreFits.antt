@@ -9,21 +9,21 @@ use Rattle.type_tree.specs.declared.counts.Counts.{Counts}
 use Rattle.type_tree.specs.Fits.{fits, fits_step, all_fit, parent_fits, formals_fit, is_within, def_fits, method_fits}
 use Rattle.type_tree.specs.Whole.{keys_fit}
 use Rattle.type_tree.proofs.Folds as tree-fold
-use Rattle.world_build.specs.declared.core_table.CoreMethod.{CoreMethod}
-use Rattle.world_build.specs.declared.core_table.FormalKind.{FormalKind}
-use Rattle.world_build.specs.declared.core_table.Params.{Params}
-use Rattle.world_build.specs.declared.core_table.Params.TheVariants.{Zero, One, Two, Three}
-use Rattle.world_build.specs.declared.core_table.SigType.{SigType}
-use Rattle.world_build.specs.declared.core_table.SigType.TheVariants.{Core, Parameter}
-use Rattle.world_build.specs.declared.core_type.CoreType.{CoreType}
-use Rattle.world_build.specs.declared.core_type.CoreType.TheVariants.{IComparable, IEquatable, String, TypeObject}
-use Rattle.world_build.specs.CoreLibrary.{plain, itself, with_argument, tree_of, trees_of, formals_of, parent_of, interfaces_of, methods_before, def_of, method_of, methods_of, defs, methods, name_id}
-use Rattle.world_build.specs.CoreTable.{core_defs, core_methods, def_id, def_text, member_text, row, method_rows}
+use Rattle.core_types.specs.declared.core_table.CoreMethod.{CoreMethod}
+use Rattle.core_types.specs.declared.core_table.FormalKind.{FormalKind}
+use Rattle.core_types.specs.declared.core_table.Params.{Params}
+use Rattle.core_types.specs.declared.core_table.Params.TheVariants.{Zero, One, Two, Three}
+use Rattle.core_types.specs.declared.core_table.SigType.{SigType}
+use Rattle.core_types.specs.declared.core_table.SigType.TheVariants.{Core, Parameter}
+use Rattle.core_types.specs.declared.core_type.CoreType.{CoreType}
+use Rattle.core_types.specs.declared.core_type.CoreType.TheVariants.{IComparable, IEquatable, String, TypeObject}
+use Rattle.core_types.specs.CoreLibrary.{plain, itself, with_argument, tree_of, trees_of, formals_of, parent_of, interfaces_of, methods_before, def_of, method_of, methods_of, defs, methods, name_id}
+use Rattle.core_types.specs.CoreTable.{core_defs, core_methods, def_id, def_text, member_text, row, method_rows}
 use Rattle.world_build.specs.Signatures.{well_known}
-use Rattle.world_build.proofs.CoreNames.{def_named, member_named, member_small}
-use Rattle.world_build.proofs.ListFacts.{all_of_map, all_of_range, all_of_both, both}
-use Rattle.world_build.proofs.Ranges.{below}
-use Rattle.world_build.proofs.TreesFit.{number_small, inst_fits, array_fits}
+use Rattle.core_types.proofs.CoreNames.{def_named, member_named, member_small}
+use Rattle.clr_base.proofs.ListFacts.{all_of_map, all_of_range, all_of_both, both}
+use Rattle.clr_base.proofs.Ranges.{below}
+use Rattle.type_members.proofs.TreesFit.{number_small, inst_fits, array_fits}
 
 -- ---- how many there are
 

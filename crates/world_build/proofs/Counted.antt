@@ -6,7 +6,7 @@ use Rattle.std.proofs.lemmas.List.{take_more}
 use Rattle.std.proofs.lemmas.List.FromFn.{get_or-range_with_len, length-range_with_len}
 use Rattle.std.proofs.lemmas.List.Sums.{sum_by-append, sum_by-cons}
 use Rattle.cli_tables.specs.Metadata.{Metadata}
-use Rattle.world_build.specs.Cells.{rows, rows_of, at, blob}
+use Rattle.image_rows.specs.Cells.{rows, rows_of, at, blob}
 use Rattle.world_build.specs.Counts.{too_many, capped, locals_by, local_count, all_locals}
 use Rattle.world_build.specs.Signatures.{listed, locals_in, locals_before}
 

@@ -12,20 +12,20 @@ use Rattle.type_tree.specs.declared.tree.Ty.{Ty}
 use Rattle.type_tree.specs.declared.tree.Ty.TheVariants as ty
 use Rattle.type_tree.specs.Fits.{fits, all_fit, key_fits, parent_fits, impls_fit, is_within, def_fits}
 use Rattle.type_tree.specs.Whole.{keys_fit}
-use Rattle.world_build.specs.declared.cells.RowOf.{RowOf}
-use Rattle.world_build.specs.declared.file_names.FileNames.{FileNames}
-use Rattle.world_build.specs.declared.member_table.Run.{Run}
-use Rattle.world_build.specs.declared.type_rows.TypeRows.{TypeRows}
-use Rattle.world_build.specs.Cells.{rows_of, at, coded, owner_of, rows_with}
-use Rattle.world_build.specs.Definitions.{parent_at, parent_of, interfaces_of, def_of}
-use Rattle.world_build.specs.Members.{type_owner}
+use Rattle.image_rows.specs.declared.cells.RowOf.{RowOf}
+use Rattle.type_names.specs.declared.file_names.FileNames.{FileNames}
+use Rattle.type_members.specs.declared.member_table.Run.{Run}
+use Rattle.type_names.specs.declared.type_rows.TypeRows.{TypeRows}
+use Rattle.image_rows.specs.Cells.{rows_of, at, coded, owner_of, rows_with}
+use Rattle.type_members.specs.Definitions.{parent_at, parent_of, interfaces_of, def_of}
+use Rattle.type_members.specs.Members.{type_owner}
 use Rattle.world_build.specs.References.{Reader, owner_type, ref_owner, spec_key}
 use Rattle.world_build.specs.Signatures.{types_in, row_types, owners_in, member_keys, locals_in, listed, local_keys, file_keys}
-use Rattle.world_build.specs.Trees.{tree, type_at_row, coded_type, empty_name}
-use Rattle.world_build.proofs.ListFacts.{all_of_map, all_of_both, all_at_or, both}
-use Rattle.world_build.proofs.MembersFit.{NamesFit, name_fits, formals_of_fit}
+use Rattle.type_members.specs.Trees.{tree, type_at_row, coded_type, empty_name}
+use Rattle.clr_base.proofs.ListFacts.{all_of_map, all_of_both, all_at_or, both}
+use Rattle.type_members.proofs.MembersFit.{NamesFit, name_fits, formals_of_fit}
 use Rattle.world_build.proofs.ReferencesFit.{ReaderFits, ref_owner_fits, owner_type_fits, spec_key_fits}
-use Rattle.world_build.proofs.TreesFit.{RowsFit, array_fits, tree_fits, type_at_row_fits, types_fit}
+use Rattle.type_members.proofs.TreesFit.{RowsFit, array_fits, tree_fits, type_at_row_fits, types_fit}
 
 -- ---- definitions
 

@@ -2,7 +2,7 @@
 use Rattle.std.proofs.Common.{◌≡◌, ℕ, zero, suc, ◌+◌, ◌≤◌, List, [], ◌∷◌, ◌++◌, take, length, Some, sym, ap, ap₂, ◌∙◌, arith, slice_get}
 use Rattle.std.proofs.lemmas.List.{append-nil, append_assoc, take_all}
 use Rattle.cli_tables.specs.Metadata.{Metadata}
-use Rattle.world_build.specs.Image.{metadata_in}
+use Rattle.image_rows.specs.Image.{metadata_in}
 use Rattle.world_build.specs.World.{of_bytes}
 
 module _ {X : Type 0} (give : List ℕ → ℕ → Metadata → List X) where

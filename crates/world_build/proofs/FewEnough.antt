@@ -9,9 +9,9 @@ use Rattle.clr_base.proofs.Checks.{outcome_of_fault}
 use Rattle.cli_tables.specs.Metadata.{Metadata}
 use Rattle.type_tree.specs.Whole.{most}
 use Rattle.world_build.specs.declared.counts.Totals.{Totals}
-use Rattle.world_build.specs.Cells.{rows}
+use Rattle.image_rows.specs.Cells.{rows}
 use Rattle.world_build.specs.Counts.{are_few, count_checks, with_file, capped, all_locals}
-use Rattle.world_build.specs.Rows.{token}
+use Rattle.image_rows.specs.Rows.{token}
 use Rattle.world_build.specs.Signatures.{row_sigs, locals_before, sigs_in}
 use Rattle.world_build.proofs.Counted.{stops, below, one_of}
 

@@ -3,7 +3,7 @@ use Rattle.std.proofs.Common.{◌≡◌, ℕ, All, List, true, Some, sym, ap, �
 use Rattle.std.proofs.lemmas.Option.{slice_get_within, get_or_from_slice_get}
 use Rattle.cli_tables.specs.Metadata.{Metadata}
 use Rattle.world_build.specs.Counts.{totals_of, are_few}
-use Rattle.world_build.specs.Rows.{ArePassed}
+use Rattle.image_rows.specs.Rows.{ArePassed}
 use Rattle.world_build.specs.World.{tables_in}
 use Rattle.world_build.proofs.FewEnough.{are_below}
 use Rattle.world_build.proofs.WorldFits.{AreFew}

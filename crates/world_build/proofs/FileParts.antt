@@ -4,27 +4,27 @@ use Rattle.std.proofs.lemmas.List.{length-append}
 use Rattle.cli_tables.specs.Metadata.{Metadata}
 use Rattle.type_tree.specs.declared.definition.Def.{Def}
 use Rattle.type_tree.specs.declared.tree.Key.{Key}
-use Rattle.world_build.specs.declared.file_names.FileNames.{FileNames}
-use Rattle.world_build.specs.declared.member_index.MemberIndex.{MemberIndex}
-use Rattle.world_build.specs.declared.member_table.MemberTable.{MemberTable}
-use Rattle.world_build.specs.declared.type_rows.TypeRows.{TypeRows}
-use Rattle.world_build.specs.Cells.{rows, rows_of}
+use Rattle.type_names.specs.declared.file_names.FileNames.{FileNames}
+use Rattle.type_members.specs.declared.member_index.MemberIndex.{MemberIndex}
+use Rattle.type_members.specs.declared.member_table.MemberTable.{MemberTable}
+use Rattle.type_names.specs.declared.type_rows.TypeRows.{TypeRows}
+use Rattle.image_rows.specs.Cells.{rows, rows_of}
 use Rattle.world_build.specs.Counts.{are_few, totals_of}
-use Rattle.world_build.specs.CoreTable.{core_methods}
-use Rattle.world_build.specs.Definitions.{def_of}
-use Rattle.world_build.specs.Image.{metadata_in}
-use Rattle.world_build.specs.MemberIndexes.{IsIndexOf}
-use Rattle.world_build.specs.MemberTable.{member_table, of_each, run_at}
+use Rattle.core_types.specs.CoreTable.{core_methods}
+use Rattle.type_members.specs.Definitions.{def_of}
+use Rattle.image_rows.specs.Image.{metadata_in}
+use Rattle.type_members.specs.MemberIndexes.{IsIndexOf}
+use Rattle.type_members.specs.MemberTable.{member_table, of_each, run_at}
 use Rattle.world_build.specs.Readers.{CanRead}
 use Rattle.world_build.specs.References.{Reader, impls_of}
-use Rattle.world_build.specs.Resolution.{rows_before}
+use Rattle.type_names.specs.Resolution.{rows_before}
 use Rattle.world_build.specs.Signatures.{file_keys, first_sig, sigs_in}
-use Rattle.world_build.specs.Trees.{AreNumbered}
+use Rattle.type_members.specs.Trees.{AreNumbered}
 use Rattle.world_build.specs.World.{reader, file_defs, file_of, world_file, tables_in}
-use Rattle.world_build.specs.WorldNames.{names, file_names, type_rows}
+use Rattle.type_names.specs.WorldNames.{names, file_names, type_rows}
 use Rattle.world_build.proofs.FewEnough.{AreBelow, are_below}
-use Rattle.world_build.proofs.FileSums.{length_of_each, of_part, rows_within}
-use Rattle.world_build.proofs.NamesCount.{names_few}
+use Rattle.type_members.proofs.FileSums.{length_of_each, of_part, rows_within}
+use Rattle.type_names.proofs.NamesCount.{names_few}
 use Rattle.world_build.proofs.WorldCounts.{file_keys_count, reader_tables}
 use Rattle.world_build.proofs.WorldFits.{named_few, table_at}
 

@@ -7,7 +7,7 @@ use Rattle.std.proofs.lemmas.List.Sums.{sum_by_more, sum_by-take-le}
 use Rattle.cli_sigs.specs.declared.signature.SigTy.{SigTy}
 use Rattle.cli_tables.specs.Metadata.{Metadata}
 use Rattle.type_tree.specs.declared.parts.Locals.{Locals}
-use Rattle.world_build.specs.Cells.{rows, rows_of}
+use Rattle.image_rows.specs.Cells.{rows, rows_of}
 use Rattle.world_build.specs.Signatures.{locals_in, listed, locals_before}
 use Rattle.world_build.proofs.WorldCounts.{all_taken}
 

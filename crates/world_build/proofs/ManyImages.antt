@@ -8,10 +8,10 @@ use Rattle.clr_base.specs.Checks.{Check, outcome, first_fault}
 use Rattle.clr_base.proofs.Checks.{outcome_failed, outcome_passed, outcome_value, outcome_of_fault}
 use Rattle.cli_tables.specs.Metadata.{Metadata}
 use Rattle.world_build.specs.declared.counts.Totals.{Totals}
-use Rattle.world_build.specs.Cells.{rows}
-use Rattle.world_build.specs.CoreTable.{core_defs, core_methods}
+use Rattle.image_rows.specs.Cells.{rows}
+use Rattle.core_types.specs.CoreTable.{core_defs, core_methods}
 use Rattle.world_build.specs.Counts.{totals_of, with_file, count_checks}
-use Rattle.world_build.specs.Image.{metadata_in, image_checks, image_of}
+use Rattle.image_rows.specs.Image.{metadata_in, image_checks, image_of}
 use Rattle.world_build.specs.Images.{file_checks, next_image_of, or_fault, images_behind}
 use Rattle.world_build.specs.Signatures.{sigs_in}
 use Rattle.world_build.proofs.FewEnough.{same_four}

@@ -12,19 +12,19 @@ use Rattle.type_tree.specs.declared.definition.Def.{Def}
 use Rattle.type_tree.specs.Lookup.{name_text}
 use Rattle.type_tree.specs.World.{Facts}
 use Rattle.world_build.specs.declared.roots.NamedRoot.{NamedRoot}
-use Rattle.world_build.specs.Cells.{rows, rows_of}
-use Rattle.world_build.specs.CoreLibrary as core
+use Rattle.image_rows.specs.Cells.{rows, rows_of}
+use Rattle.core_types.specs.CoreLibrary as core
 use Rattle.world_build.specs.DefNames.{names_in}
-use Rattle.world_build.specs.Definitions.{def_of}
-use Rattle.world_build.specs.MemberTable.{of_each, run_of}
-use Rattle.world_build.specs.Names.{number_in}
+use Rattle.type_members.specs.Definitions.{def_of}
+use Rattle.type_members.specs.MemberTable.{of_each, run_of}
+use Rattle.core_types.specs.Names.{number_in}
 use Rattle.world_build.specs.References.{impls_of}
 use Rattle.world_build.specs.Roots.{world_with}
-use Rattle.world_build.specs.Trees.{empty_name}
-use Rattle.world_build.specs.TypeNames.{full_name}
+use Rattle.type_members.specs.Trees.{empty_name}
+use Rattle.image_rows.specs.TypeNames.{full_name}
 use Rattle.world_build.specs.World.{reader, file_defs, tables_in, world}
-use Rattle.world_build.specs.WorldNames.{names, name_id, file_names}
-use Rattle.world_build.proofs.NamesThere.{is_among, same_text, defs_there}
+use Rattle.type_names.specs.WorldNames.{names, name_id, file_names}
+use Rattle.type_members.proofs.NamesThere.{is_among, same_text, defs_there}
 
 -- ---- which definitions are a file's
 

@@ -17,14 +17,15 @@ use Rattle.type_tree.specs.declared.parts.Member.TheVariants.{Lost}
 use Rattle.type_tree.specs.declared.tree.Ty.{Ty}
 use Rattle.type_tree.specs.Kinds.{head}
 use Rattle.world_build.specs.declared.member_refs.RefCells.{RefCells}
-use Rattle.world_build.specs.Cells.{at, rows, text, blob, coded, text_or_none}
+use Rattle.image_rows.specs.Cells.{at, rows, text, blob, coded, text_or_none}
 use Rattle.world_build.specs.MemberRefs.{AreNoted, cells_of, members_of_refs, noted_at, same_cells}
-use Rattle.world_build.specs.MemberTable.{open_of, own_field, own_method}
-use Rattle.world_build.specs.Members.{no_method}
-use Rattle.world_build.specs.Names.{number_in}
-use Rattle.world_build.specs.References.{Reader, begins_with, field_member, member_ref, method_member, parent_type, ref_blob, ref_field_sig, ref_member, ref_method_sig, ref_name_id, ref_owner}
-use Rattle.world_build.specs.Trees.{row_counts, tree, value_or}
-use Rattle.world_build.proofs.ListFacts.{both, choose}
+use Rattle.type_members.specs.MemberTable.{open_of, own_field, own_method}
+use Rattle.type_members.specs.Members.{no_method}
+use Rattle.core_types.specs.Names.{number_in}
+use Rattle.world_build.specs.References.{Reader, field_member, member_ref, method_member, parent_type, ref_blob, ref_field_sig, ref_member, ref_method_sig, ref_name_id, ref_owner}
+use Rattle.image_rows.specs.Blobs.{begins_with, row_counts, value_or}
+use Rattle.type_members.specs.Trees.{tree}
+use Rattle.clr_base.proofs.ListFacts.{both, choose}
 
 module _ (w : Reader) where
   -- the member by the type that owns it, its name, its blob, and what that says of a field and of a method

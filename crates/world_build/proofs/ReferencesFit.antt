@@ -13,14 +13,15 @@ use Rattle.type_tree.specs.declared.tree.Ty.{Ty}
 use Rattle.type_tree.specs.Fits.{fits, all_fit, key_fits, method_is_below, impl_fits, impls_fit}
 use Rattle.type_tree.specs.Kinds.{head}
 use Rattle.type_tree.specs.Whole.{member_fits}
-use Rattle.world_build.specs.declared.cells.RowOf.{RowOf}
-use Rattle.world_build.specs.Cells.{rows, at, coded, loose, owner_of, rows_with}
-use Rattle.world_build.specs.MemberTable.{open_of, own_method, own_field}
-use Rattle.world_build.specs.References.{Reader, parent_type, ref_owner, begins_with, ref_blob, ref_name_id, ref_field_sig, ref_method_sig, field_member, method_member, member_ref, def_member, ref_member, named_member, owner_type, named_owner, method_only, spec_row, spec_args, spec_method, method_spec, spec_key_at, spec_key, impl_member, impl_of, impls_of}
-use Rattle.world_build.specs.Trees.{tree}
-use Rattle.world_build.proofs.ListFacts.{choose, all_of_map, both}
-use Rattle.world_build.proofs.MembersFit.{own_method_within, own_field_within}
-use Rattle.world_build.proofs.TreesFit.{RowsFit, nothing_fits, def_type_fits, trees_fit, type_at_row_fits}
+use Rattle.image_rows.specs.declared.cells.RowOf.{RowOf}
+use Rattle.image_rows.specs.Blobs.{begins_with}
+use Rattle.image_rows.specs.Cells.{rows, at, coded, loose, owner_of, rows_with}
+use Rattle.type_members.specs.MemberTable.{open_of, own_method, own_field}
+use Rattle.world_build.specs.References.{Reader, parent_type, ref_owner, ref_blob, ref_name_id, ref_field_sig, ref_method_sig, field_member, method_member, member_ref, def_member, ref_member, named_member, owner_type, named_owner, method_only, spec_row, spec_args, spec_method, method_spec, spec_key_at, spec_key, impl_member, impl_of, impls_of}
+use Rattle.type_members.specs.Trees.{tree}
+use Rattle.clr_base.proofs.ListFacts.{choose, all_of_map, both}
+use Rattle.type_members.proofs.MembersFit.{own_method_within, own_field_within}
+use Rattle.type_members.proofs.TreesFit.{RowsFit, nothing_fits, def_type_fits, trees_fit, type_at_row_fits}
 
 -- what the rows of a file are read by is there
 pub record ReaderFits (c : Counts) (w : Reader) : Type 0 where

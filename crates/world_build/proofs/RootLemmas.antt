@@ -16,8 +16,8 @@ use Rattle.type_tree.proofs.LookupLemmas.{first_named-name}
 use Rattle.world_build.specs.declared.roots.NamedRoot.{NamedRoot}
 use Rattle.world_build.specs.Entries.{IsParted, entry_of}
 use Rattle.world_build.specs.Roots.{NamesEntry}
-use Rattle.world_build.proofs.ListFacts.{both, there_is}
-use Rattle.world_build.proofs.TreesFit.{inst_fits, array_fits}
+use Rattle.clr_base.proofs.ListFacts.{both, there_is}
+use Rattle.type_members.proofs.TreesFit.{inst_fits, array_fits}
 
 -- ---- a word has one last `::`
 

@@ -21,7 +21,7 @@ use Rattle.world_build.specs.declared.roots.RootForm.TheVariants.{Types, Entries
 use Rattle.world_build.specs.Entries.{is_entry_at, own_methods, meth_id, entry_in, entry_at, entry_of}
 use Rattle.world_build.specs.Roots.{NamesRoot, NameRoots, root_key, roots_from, world_with, AreNewRoots, HasRoots, IsFirstUnnamed}
 use Rattle.world_build.specs.Roots as spec
-use Rattle.world_build.proofs.ListFacts.{found_passes, there_is}
+use Rattle.clr_base.proofs.ListFacts.{found_passes, there_is}
 use Rattle.world_build.proofs.RootLemmas.{read_fits}
 use Rattle.world_build.proofs.RootsWhole.{RootFits, RootsFit, whole_with}
 use Rattle.world_build.proofs.RootsWhole as whole

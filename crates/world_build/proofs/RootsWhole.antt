@@ -27,7 +27,7 @@ use Rattle.type_tree.proofs.Folds.{Known, trees, by_variants, fold-Inst, fold-Ar
 use Rattle.type_tree.proofs.WholeLemmas.{parts, things}
 use Rattle.world_build.specs.declared.roots.NamedRoot.{NamedRoot}
 use Rattle.world_build.specs.Roots.{root_key, roots_from, world_with}
-use Rattle.world_build.proofs.ListFacts.{both, all_of_both}
+use Rattle.clr_base.proofs.ListFacts.{both, all_of_both}
 
 -- all items pass a test, where they pass another one that implies it
 all_too : {X : Type 0} (p q : X → Bool) → ((x : X) → p x ≡ true → q x ≡ true) → (xs : List X) → list_all p xs ≡ true → list_all q xs ≡ true

@@ -7,14 +7,14 @@ use Rattle.cli_tables.specs.Layout.{row_count}
 use Rattle.cli_tables.specs.Metadata.{Metadata}
 use Rattle.cli_tables.specs.Schema.{columns}
 use Rattle.type_tree.specs.declared.counts.Counts.{Counts}
-use Rattle.world_build.specs.CoreTable.{core_methods}
-use Rattle.world_build.specs.Cells.{rows, at, run_len, before_run}
-use Rattle.world_build.specs.MemberTable.{run_of, run_at}
-use Rattle.world_build.specs.Resolution.{rows_before}
-use Rattle.world_build.specs.Rows.{is_run, cell_before, cell_checks, ArePassed}
+use Rattle.core_types.specs.CoreTable.{core_methods}
+use Rattle.image_rows.specs.Cells.{rows, at, run_len, before_run}
+use Rattle.type_members.specs.MemberTable.{run_of, run_at}
+use Rattle.type_names.specs.Resolution.{rows_before}
+use Rattle.image_rows.specs.Rows.{is_run, cell_before, cell_checks, ArePassed}
 use Rattle.world_build.proofs.DefsFit.{RunFits}
-use Rattle.world_build.proofs.ListFacts.{choose}
-use Rattle.world_build.proofs.Passing.{one_passes, cell_passes, columns_pass, row_at, type_defs_pass}
+use Rattle.clr_base.proofs.ListFacts.{choose}
+use Rattle.image_rows.proofs.Passing.{one_passes, cell_passes, columns_pass, row_at, type_defs_pass}
 
 -- the first row of a run in a column
 pub record StartsWell (m : Metadata) (column table row : ℕ) : Type 0 where

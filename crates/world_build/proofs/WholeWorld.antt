@@ -18,26 +18,26 @@ use Rattle.type_tree.specs.Fits.{def_fits, method_fits, field_fits, key_fits}
 use Rattle.type_tree.specs.Tokens as tokens
 use Rattle.type_tree.specs.Whole.{IsWhole, is_whole, most, are_in_order, member_fits, locals_fit, lists_fit, file_fits, place_fits}
 use Rattle.world_build.specs.Bodies.{body_of, file_bodies}
-use Rattle.world_build.specs.CoreLibrary as core
-use Rattle.world_build.specs.CoreTable.{core_defs, core_methods}
-use Rattle.world_build.specs.Cells.{rows, rows_of}
-use Rattle.world_build.specs.Definitions.{def_of}
-use Rattle.world_build.specs.Image.{metadata_in}
-use Rattle.world_build.specs.MemberTable.{of_each, member_table, run_of}
-use Rattle.world_build.specs.Members.{file_methods, file_fields}
+use Rattle.core_types.specs.CoreLibrary as core
+use Rattle.core_types.specs.CoreTable.{core_defs, core_methods}
+use Rattle.image_rows.specs.Cells.{rows, rows_of}
+use Rattle.type_members.specs.Definitions.{def_of}
+use Rattle.image_rows.specs.Image.{metadata_in}
+use Rattle.type_members.specs.MemberTable.{of_each, member_table, run_of}
+use Rattle.type_members.specs.Members.{file_methods, file_fields}
 use Rattle.world_build.specs.References.{member_ref, method_spec, impls_of}
-use Rattle.world_build.specs.Resolution.{rows_before}
+use Rattle.type_names.specs.Resolution.{rows_before}
 use Rattle.world_build.specs.Signatures.{well_known, locals_in, listed, file_keys, row_sigs, locals_before, sigs_in, first_sig, run_at, locals_of}
 use Rattle.world_build.specs.World.{reader, file_defs, file_of, world_file, of_bytes, tables_in, no_body, world}
-use Rattle.world_build.specs.WorldNames.{names, file_names}
+use Rattle.type_names.specs.WorldNames.{names, file_names}
 use Rattle.world_build.proofs.BodiesFit.{body_fits}
 use Rattle.world_build.proofs.CoreFits.{count_of_methods, defs_fit_all, methods_fit_all, well_known_fit}
 use Rattle.world_build.proofs.DefsFit.{def_of_fits, file_keys_fit}
-use Rattle.world_build.proofs.FileSums.{all_rows, rows_within, of_part, all_of_each}
-use Rattle.world_build.proofs.ListFacts.{all_of_map, all_of_range, all_of_both, there_is, both}
-use Rattle.world_build.proofs.MembersFit.{NamesFit, file_methods_fit, file_fields_fit}
-use Rattle.world_build.proofs.NamesCount.{names_few, more_than_core}
-use Rattle.world_build.proofs.NamesThere.{type_rows_fit, file_names_fit}
+use Rattle.type_members.proofs.FileSums.{all_rows, rows_within, of_part, all_of_each}
+use Rattle.clr_base.proofs.ListFacts.{all_of_map, all_of_range, all_of_both, there_is, both}
+use Rattle.type_members.proofs.MembersFit.{NamesFit, file_methods_fit, file_fields_fit}
+use Rattle.type_names.proofs.NamesCount.{names_few, more_than_core}
+use Rattle.type_members.proofs.NamesThere.{type_rows_fit, file_names_fit}
 use Rattle.world_build.proofs.ReferencesFit.{ReaderFits, member_ref_fits, method_spec_fits, impls_of_fit}
 use Rattle.world_build.proofs.RunsFit.{run_fits}
 use Rattle.world_build.proofs.WorldCounts.{all_taken, def_total, method_total, field_total, sig_total}

@@ -8,19 +8,19 @@ use Rattle.std.proofs.lemmas.List.Sums.{sum_by-cons}
 use Rattle.cli_tables.specs.Metadata.{Metadata}
 use Rattle.type_tree.specs.declared.tree.Key.TheVariants.{Tree}
 use Rattle.type_tree.specs.declared.tree.Ty.TheVariants as ty
-use Rattle.world_build.specs.declared.type_rows.TypeRows.{TypeRows}
-use Rattle.world_build.specs.CoreLibrary as core
-use Rattle.world_build.specs.CoreTable.{core_defs, core_methods}
-use Rattle.world_build.specs.Cells.{rows, rows_of}
-use Rattle.world_build.specs.MemberTable.{of_each, member_table}
-use Rattle.world_build.specs.Members.{file_methods, file_fields}
+use Rattle.type_names.specs.declared.type_rows.TypeRows.{TypeRows}
+use Rattle.core_types.specs.CoreLibrary as core
+use Rattle.core_types.specs.CoreTable.{core_defs, core_methods}
+use Rattle.image_rows.specs.Cells.{rows, rows_of}
+use Rattle.type_members.specs.MemberTable.{of_each, member_table}
+use Rattle.type_members.specs.Members.{file_methods, file_fields}
 use Rattle.world_build.specs.References.{Reader, spec_key}
 use Rattle.world_build.specs.Signatures.{well_known, types_in, row_types, owners_in, member_keys, locals_in, listed, local_keys, file_keys, row_sigs, locals_before, sigs_in}
-use Rattle.world_build.specs.Trees.{tree}
+use Rattle.type_members.specs.Trees.{tree}
 use Rattle.world_build.specs.World.{reader, file_defs}
-use Rattle.world_build.specs.WorldNames.{file_names}
+use Rattle.type_names.specs.WorldNames.{file_names}
 use Rattle.world_build.proofs.CoreFits.{count_of_defs, count_of_methods}
-use Rattle.world_build.proofs.FileSums.{all_rows, length_of_each}
+use Rattle.type_members.proofs.FileSums.{all_rows, length_of_each}
 
 -- ---- definitions, methods, fields
 

@@ -6,15 +6,15 @@ use Rattle.std.proofs.lemmas.List.Sums.{sum_by-cons}
 use Rattle.cli_tables.specs.Metadata.{Metadata}
 use Rattle.type_tree.specs.declared.parts.WorldFile.{WorldFile}
 use Rattle.type_tree.specs.Whole.{most}
-use Rattle.world_build.specs.CoreTable.{core_defs, core_methods}
-use Rattle.world_build.specs.Cells.{rows}
-use Rattle.world_build.specs.Image.{metadata_in}
-use Rattle.world_build.specs.Rows.{ArePassed}
+use Rattle.core_types.specs.CoreTable.{core_defs, core_methods}
+use Rattle.image_rows.specs.Cells.{rows}
+use Rattle.image_rows.specs.Image.{metadata_in}
+use Rattle.image_rows.specs.Rows.{ArePassed}
 use Rattle.world_build.specs.Signatures.{row_sigs, sigs_in}
 use Rattle.world_build.specs.World.{of_bytes, tables_in}
-use Rattle.world_build.proofs.FileSums.{all_rows}
-use Rattle.world_build.proofs.ListFacts.{all_of_both}
-use Rattle.world_build.proofs.NamesCount.{named_rows}
+use Rattle.type_members.proofs.FileSums.{all_rows}
+use Rattle.clr_base.proofs.ListFacts.{all_of_both}
+use Rattle.type_names.proofs.NamesCount.{named_rows}
 
 -- files that pass their checks, whose definitions, methods, fields and signatures are few enough
 pub record AreFew (files : List (List ℕ)) : Type 0 where

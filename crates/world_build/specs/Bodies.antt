@@ -7,7 +7,7 @@ use Rattle.pe_image.specs.declared.locate.Places.{Places}
 use Rattle.pe_image.specs.Bodies.{body_range}
 use Rattle.pe_image.specs.Metadata.{metadata_of}
 use Rattle.type_tree.specs.declared.parts.BodyPlace.{BodyPlace}
-use Rattle.world_build.specs.Cells.{rows_of, at}
+use Rattle.image_rows.specs.Cells.{rows_of, at}
 
 -- where a body stands in a file with a number; one that is refused has no bytes
 abbrev pub place_in : ℕ → Option BodyRange → BodyPlace

@@ -8,13 +8,11 @@ use Rattle.cli_sigs.specs.Signatures.{placed, locals_at}
 use Rattle.cli_tables.specs.Metadata.{Metadata}
 use Rattle.type_tree.specs.Whole.{most}
 use Rattle.world_build.specs.declared.counts.Totals.{Totals}
-use Rattle.world_build.specs.CoreTable.{core_defs, core_methods}
-use Rattle.world_build.specs.Cells.{rows}
-use Rattle.world_build.specs.References.{begins_with}
-use Rattle.world_build.specs.Rows.{token}
-use Rattle.world_build.specs.SignatureChecks.{blob_by}
+use Rattle.core_types.specs.CoreTable.{core_defs, core_methods}
+use Rattle.image_rows.specs.Cells.{rows}
+use Rattle.image_rows.specs.Rows.{token}
 use Rattle.world_build.specs.Signatures.{listed, locals_before, sigs_in}
-use Rattle.world_build.specs.Trees.{row_counts, value_or}
+use Rattle.image_rows.specs.Blobs.{begins_with, blob_by, row_counts, value_or}
 
 -- those of the core library and of some files; of signatures the core has three
 unfoldable pub totals_of : List Metadata → Totals

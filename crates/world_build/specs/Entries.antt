@@ -13,9 +13,9 @@ use Rattle.type_tree.specs.declared.tree.Ty.TheOpen.{Ty-F}
 use Rattle.type_tree.specs.declared.tree.Ty.TheViews.{out-Ty}
 use Rattle.type_tree.specs.Lookup.{name_text}
 use Rattle.type_tree.specs.World.{Facts}
-use Rattle.world_build.specs.declared.core_type.CoreType.{CoreType}
-use Rattle.world_build.specs.declared.core_type.CoreType.TheVariants.{Void, Int32, String}
-use Rattle.world_build.specs.CoreTable.{number_of}
+use Rattle.core_types.specs.declared.core_type.CoreType.{CoreType}
+use Rattle.core_types.specs.declared.core_type.CoreType.TheVariants.{Void, Int32, String}
+use Rattle.core_types.specs.CoreTable.{number_of}
 
 -- the parts of a word: what stands before its last `::`, and what stands behind that
 pub record IsParted (word owner name : List ℕ) : Type 0 where

@@ -7,7 +7,7 @@ use Rattle.cli_tables.specs.Metadata.{Metadata}
 use Rattle.world_build.specs.declared.images.ImagesFault.{ImagesFault}
 use Rattle.world_build.specs.declared.images.ImagesFault.TheVariants.{Image, Memory}
 use Rattle.world_build.specs.Counts.{totals_of, count_checks}
-use Rattle.world_build.specs.Image.{metadata_in, image_checks}
+use Rattle.image_rows.specs.Image.{metadata_in, image_checks}
 
 -- the bytes of each file
 abbrev pub bytes_of_each : List (Vec ℕ Global) → List (List ℕ)

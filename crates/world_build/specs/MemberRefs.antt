@@ -5,7 +5,7 @@ use Rattle.indexmap.specs.IndexMap.{IndexMap, get}
 use Rattle.cli_tables.specs.Metadata.{Metadata}
 use Rattle.type_tree.specs.declared.parts.Member.{Member}
 use Rattle.world_build.specs.declared.member_refs.RefCells.{RefCells}
-use Rattle.world_build.specs.Cells.{at, rows_of}
+use Rattle.image_rows.specs.Cells.{at, rows_of}
 use Rattle.world_build.specs.References.{Reader, member_ref}
 
 -- the members of all rows

@@ -1,12 +1,12 @@
 -- What is known of the reader of a file's rows.
 use Rattle.std.specs.Prelude.{◌≡◌, ℕ, ◌+◌, ◌<◌, ◌≤◌, ◌^◌, List, map, length}
 use Rattle.cli_tables.specs.Metadata.{Metadata}
-use Rattle.world_build.specs.declared.member_index.MemberIndex.{MemberIndex}
-use Rattle.world_build.specs.declared.member_table.MemberTable.{MemberTable}
-use Rattle.world_build.specs.declared.type_rows.TypeRows.{TypeRows}
-use Rattle.world_build.specs.Cells.{rows, rows_of, owner_of}
-use Rattle.world_build.specs.MemberIndexes.{IsIndexOf}
-use Rattle.world_build.specs.Trees.{AreNumbered}
+use Rattle.type_members.specs.declared.member_index.MemberIndex.{MemberIndex}
+use Rattle.type_members.specs.declared.member_table.MemberTable.{MemberTable}
+use Rattle.type_names.specs.declared.type_rows.TypeRows.{TypeRows}
+use Rattle.image_rows.specs.Cells.{rows, rows_of, owner_of}
+use Rattle.type_members.specs.MemberIndexes.{IsIndexOf}
+use Rattle.type_members.specs.Trees.{AreNumbered}
 
 -- the number of a text and of each definition and method fits 32 bits, and members are found by their index
 pub record CanRead (names : List (List ℕ)) (members : MemberTable) (index : MemberIndex) (types : TypeRows) (m : Metadata) (first_method : ℕ) : Type 0 where

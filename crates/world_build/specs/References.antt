@@ -1,5 +1,5 @@
 -- What MemberRef, MethodSpec and MethodImpl rows name (ECMA-335 II.22.25, II.22.29, II.22.27).
-use Rattle.std.specs.Prelude.{ℕ, ◌+◌, ◌-◌, ◌==◌, ◌&&◌, nat_le, List, [], ◌∷◌, map, Bool, false, Option, None, Some, if◌then◌else◌}
+use Rattle.std.specs.Prelude.{ℕ, ◌+◌, ◌-◌, ◌==◌, ◌&&◌, nat_le, List, [], map, false, Option, None, Some, if◌then◌else◌}
 use Rattle.std.specs.Option.{option_and_then}
 use Rattle.clr_base.specs.declared.ids.FieldId.{FieldId}
 use Rattle.clr_base.specs.declared.ids.MethId.{MethId}
@@ -17,14 +17,15 @@ use Rattle.type_tree.specs.declared.tree.Key.{Key}
 use Rattle.type_tree.specs.declared.tree.Key.TheVariants.{Tree, Meth}
 use Rattle.type_tree.specs.declared.tree.Ty.{Ty}
 use Rattle.type_tree.specs.Kinds.{head}
-use Rattle.world_build.specs.declared.cells.RowOf.{RowOf}
-use Rattle.world_build.specs.declared.member_table.MemberTable.{MemberTable}
-use Rattle.world_build.specs.declared.type_rows.TypeRows.{TypeRows}
-use Rattle.world_build.specs.Cells.{rows, at, text, blob, coded, loose, owner_of, rows_with}
-use Rattle.world_build.specs.MemberTable.{open_of, own_method, own_field}
-use Rattle.world_build.specs.Members.{no_method}
-use Rattle.world_build.specs.Names.{number_in}
-use Rattle.world_build.specs.Trees.{tree, trees, row_counts, value_or, type_at_row, def_type, nothing}
+use Rattle.image_rows.specs.declared.cells.RowOf.{RowOf}
+use Rattle.type_members.specs.declared.member_table.MemberTable.{MemberTable}
+use Rattle.type_names.specs.declared.type_rows.TypeRows.{TypeRows}
+use Rattle.image_rows.specs.Cells.{rows, at, text, blob, coded, loose, owner_of, rows_with}
+use Rattle.type_members.specs.MemberTable.{open_of, own_method, own_field}
+use Rattle.type_members.specs.Members.{no_method}
+use Rattle.core_types.specs.Names.{number_in}
+use Rattle.image_rows.specs.Blobs.{begins_with, row_counts, value_or}
+use Rattle.type_members.specs.Trees.{tree, trees, type_at_row, def_type, nothing}
 
 -- what the rows of a file are read by: the names and the members of the world, the types of the file's rows, its tables, and the
 -- number of the method in its first MethodDef row
@@ -37,7 +38,7 @@ pub record Reader : Type 0 where
 
 -- ---- MemberRef
 
--- the type that owns the member: none owns one of a method or of a module
+-- the type that owns the member: the missing type without a name for a parent that is a method or a module
 abbrev pub parent_type : Reader → Option RowOf → Ty
 parent_type w None = nothing false
 parent_type w (Some r) =
@@ -48,11 +49,6 @@ parent_type w (Some r) =
 
 unfoldable pub ref_owner : Reader → ℕ → Ty
 ref_owner w row = parent_type w (coded MemberRefParent (at w.tables 0x0A row 0))
-
--- a blob that begins with a code; a field's begins with 06
-abbrev pub begins_with : ℕ → List ℕ → Bool
-begins_with code [] = false
-begins_with code (b ∷ bs) = b == code
 
 abbrev pub ref_blob : Metadata → ℕ → List ℕ
 ref_blob m row = blob m 0x0A row 2

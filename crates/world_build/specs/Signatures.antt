@@ -10,12 +10,13 @@ use Rattle.type_tree.specs.declared.tree.Key.{Key}
 use Rattle.type_tree.specs.declared.tree.Key.TheVariants.{Tree}
 use Rattle.type_tree.specs.declared.tree.Ty.{Ty}
 use Rattle.type_tree.specs.declared.tree.Ty.TheVariants as ty
-use Rattle.world_build.specs.declared.core_type.CoreType.TheVariants.{String, TypeObject}
-use Rattle.world_build.specs.declared.type_rows.TypeRows.{TypeRows}
-use Rattle.world_build.specs.CoreLibrary.{plain}
-use Rattle.world_build.specs.Cells.{rows, rows_of, blob, owner_of}
-use Rattle.world_build.specs.Trees.{tree, row_counts, value_or, type_at_row}
-use Rattle.world_build.specs.References.{Reader, begins_with, owner_type, ref_owner, spec_key}
+use Rattle.core_types.specs.declared.core_type.CoreType.TheVariants.{String, TypeObject}
+use Rattle.type_names.specs.declared.type_rows.TypeRows.{TypeRows}
+use Rattle.core_types.specs.CoreLibrary.{plain}
+use Rattle.image_rows.specs.Cells.{rows, rows_of, blob, owner_of}
+use Rattle.image_rows.specs.Blobs.{begins_with, row_counts, value_or}
+use Rattle.type_members.specs.Trees.{tree, type_at_row}
+use Rattle.world_build.specs.References.{Reader, owner_type, ref_owner, spec_key}
 
 -- System.String, System.Type, System.String[]
 unfoldable pub well_known : List Key

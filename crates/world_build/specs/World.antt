@@ -6,18 +6,18 @@ use Rattle.type_tree.specs.declared.definition.Def.{Def}
 use Rattle.type_tree.specs.declared.parts.BodyPlace.{BodyPlace}
 use Rattle.type_tree.specs.declared.parts.WorldFile.{WorldFile}
 use Rattle.type_tree.specs.declared.parts.WorldParts.{WorldParts}
-use Rattle.world_build.specs.declared.core_type.CoreType.TheVariants as known
-use Rattle.world_build.specs.CoreLibrary as core
-use Rattle.world_build.specs.CoreTable.{core_methods, def_id}
+use Rattle.core_types.specs.declared.core_type.CoreType.TheVariants as known
+use Rattle.core_types.specs.CoreLibrary as core
+use Rattle.core_types.specs.CoreTable.{core_methods, def_id}
 use Rattle.world_build.specs.Bodies.{file_bodies}
-use Rattle.world_build.specs.Cells.{rows, rows_of, loose}
-use Rattle.world_build.specs.Definitions.{def_of}
-use Rattle.world_build.specs.Image.{metadata_in}
-use Rattle.world_build.specs.MemberTable.{member_table, of_each, run_of}
+use Rattle.image_rows.specs.Cells.{rows, rows_of, loose}
+use Rattle.type_members.specs.Definitions.{def_of}
+use Rattle.image_rows.specs.Image.{metadata_in}
+use Rattle.type_members.specs.MemberTable.{member_table, of_each, run_of}
 use Rattle.world_build.specs.References.{Reader, member_ref, method_spec, impls_of}
-use Rattle.world_build.specs.Resolution.{rows_before}
+use Rattle.type_names.specs.Resolution.{rows_before}
 use Rattle.world_build.specs.Signatures.{well_known, file_keys, first_sig, locals_of}
-use Rattle.world_build.specs.WorldNames.{names, file_names, type_rows}
+use Rattle.type_names.specs.WorldNames.{names, file_names, type_rows}
 
 -- ---- what the rows of each file are read by
 

@@ -4,14 +4,13 @@ ghost use Rattle.cli_tables.specs.Layout.{row_count};
 ghost use Rattle.pe_image.specs.Metadata.{metadata_of};
 ghost use Rattle.world_build.specs.Bodies as spec;
 
-use crate::room::with_room;
-use crate::table_numbers::METHOD_DEF;
 use cli_tables::Tables;
 use clr_base::{ImageFault, Memory};
+use image_rows::METHOD_DEF;
 use pe_image::{BodyRange, Places, body_range, metadata};
 use sqlite_items::Items;
 use std::alloc::Global;
-use type_tree::BodyPlace;
+use type_tree::{BodyPlace, with_room};
 
 /// The column RVA of MethodDef (II.22.26).
 const RVA: u8 = 0;
@@ -67,7 +66,7 @@ fn body_of(
 }
 
 /// The places of the bodies of all methods of the file with a number, from 1, row by row.
-#[tactic(auto, unfolding(crate::specs::Bodies::file_bodies), using(crate::proofs::Ranges::rows_more))]
+#[tactic(auto, unfolding(crate::specs::Bodies::file_bodies), using(clr_base::proofs::Ranges::rows_more))]
 pub fn file_bodies(
     alloc: Global,
     bytes: &[u8],

@@ -2,20 +2,17 @@
 ghost use Rattle.std.specs.Prelude.{◌≡◌, ◌≤◌, [], true, IfOk, OnOk};
 ghost use Rattle.clr_base.specs.Checks.{outcome};
 ghost use Rattle.world_build.specs.Counts as spec;
-ghost use Rattle.world_build.specs.Refusals.{GivesOutcome};
-ghost use Rattle.world_build.specs.SignatureChecks.{AreNotes};
+ghost use Rattle.image_rows.specs.Refusals.{GivesOutcome};
+ghost use Rattle.image_rows.specs.SignatureChecks.{AreNotes};
 ghost use Rattle.world_build.specs.Signatures as sigs;
 
-use crate::refusal::Refusal;
-use crate::rows::token;
-use crate::signature_checks::{LOCALS_CODE, begins_with, blob_by};
-use crate::table_numbers::{
-    FIELD, MEMBER_REF, METHOD_DEF, METHOD_SPEC, STAND_ALONE_SIG, TYPE_DEF, TYPE_REF, TYPE_SPEC,
-};
-use crate::trees::{row_counts, value_or};
 use cli_sigs::{SigTyList, read_locals};
 use cli_tables::Tables;
 use clr_base::{FaultKind, Memory, check};
+use image_rows::{
+    FIELD, LOCALS_CODE, MEMBER_REF, METHOD_DEF, METHOD_SPEC, Refusal, STAND_ALONE_SIG, TYPE_DEF,
+    TYPE_REF, TYPE_SPEC, begins_with, blob_by, row_counts, token, value_or,
+};
 use indexmap::IndexMap;
 use sqlite_items::Items;
 use std::alloc::Global;

@@ -5,8 +5,8 @@ ghost use Rattle.type_tree.specs.Fits.{fits};
 ghost use Rattle.type_tree.specs.Whole.{counts};
 ghost use Rattle.world_build.specs.Entries as spec;
 
-use crate::core_type::CoreType;
 use clr_base::{DefId, MethId};
+use core_types::CoreType;
 use type_tree::{Method, Ty, World};
 
 /// MethodAttributes.Static (II.23.1.10).

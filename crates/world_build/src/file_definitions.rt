@@ -1,22 +1,21 @@
 //! The definitions of a file, in row order.
 ghost use Rattle.std.specs.Prelude.{◌≡◌, ◌≤◌, ◌++◌, map, OnOk};
-ghost use Rattle.world_build.specs.Cells.{rows_of};
-ghost use Rattle.world_build.specs.Definitions as spec;
+ghost use Rattle.image_rows.specs.Cells.{rows_of};
+ghost use Rattle.type_members.specs.Definitions as spec;
 ghost use Rattle.world_build.specs.MemberRefs.{members_of_refs as all_refs};
-ghost use Rattle.world_build.specs.MemberTable.{run_at};
+ghost use Rattle.type_members.specs.MemberTable.{run_at};
 ghost use Rattle.world_build.specs.References as references;
-ghost use Rattle.world_build.specs.RowIndexes.{AreFileRows};
-ghost use Rattle.world_build.specs.Trees.{AreNumbered};
+ghost use Rattle.type_members.specs.RowIndexes.{AreFileRows};
+ghost use Rattle.type_members.specs.Trees.{AreNumbered};
 
-use crate::definitions::{def_of, run_of};
-use crate::file_names::FileNames;
-use crate::file_rows::FileRows;
 use crate::method_impls::impls_of;
 use crate::reader::Reader;
-use crate::table_numbers::TYPE_DEF;
 use clr_base::Memory;
+use image_rows::TYPE_DEF;
 use sqlite_items::Items;
 use std::alloc::Global;
+use type_members::{FileRows, def_of, run_of};
+use type_names::FileNames;
 use type_tree::{Def, Member};
 
 /// Appends the definitions of the file with a number, from 1, where files before it have so many fields and methods, given the

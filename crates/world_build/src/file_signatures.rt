@@ -2,11 +2,11 @@
 ghost use Rattle.std.specs.Prelude.{◌≡◌, ◌+◌, ◌≤◌, ◌++◌, map, IfOk, OnOk};
 ghost use Rattle.type_tree.specs.declared.tree.Key.TheVariants as key;
 ghost use Rattle.type_tree.specs.declared.tree.Ty.TheVariants as ty;
-ghost use Rattle.world_build.specs.Cells.{rows_of};
+ghost use Rattle.image_rows.specs.Cells.{rows_of};
 ghost use Rattle.world_build.specs.MemberRefs.{members_of_refs as all_refs};
 ghost use Rattle.world_build.specs.References as references;
 ghost use Rattle.world_build.specs.Signatures as spec;
-ghost use Rattle.world_build.specs.Trees.{AreNumbered};
+ghost use Rattle.type_members.specs.Trees.{AreNumbered};
 
 use crate::counts::row_sigs;
 use crate::local_signatures::push_locals;
@@ -14,15 +14,15 @@ use crate::method_specs::spec_key;
 use crate::reader::Reader;
 use crate::references::ref_owner;
 use crate::row_signatures::{push_arrays, push_owners, push_types};
-use crate::table_numbers::{
+use cli_tables::Tables;
+use clr_base::Memory;
+use image_rows::{
     FIELD, FIELD_LIST, MEMBER_REF, METHOD_DEF, METHOD_LIST, METHOD_SPEC, TYPE_DEF, TYPE_REF,
     TYPE_SPEC,
 };
-use crate::type_rows::TypeRows;
-use cli_tables::Tables;
-use clr_base::Memory;
 use sqlite_items::Items;
 use std::alloc::Global;
+use type_names::TypeRows;
 use type_tree::{Key, KeyList, Locals, Member};
 
 /// Appends the types that rows are, and the array of each of them.

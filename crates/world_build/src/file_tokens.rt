@@ -1,18 +1,17 @@
 //! What a world keeps of a file: where its rows are numbered, and what they name.
 ghost use Rattle.std.specs.Prelude.{◌≡◌, map, IfOk};
-ghost use Rattle.world_build.specs.Cells.{rows_of};
+ghost use Rattle.image_rows.specs.Cells.{rows_of};
 ghost use Rattle.world_build.specs.MemberRefs.{members_of_refs as all_refs};
 ghost use Rattle.world_build.specs.References as references;
 ghost use Rattle.world_build.specs.Signatures.{locals_of};
 ghost use Rattle.world_build.specs.World as spec;
 
 use crate::method_specs::method_spec;
-use crate::owners::loose;
 use crate::reader::Reader;
-use crate::table_numbers::{
-    FIELD, FIELD_LIST, METHOD_DEF, METHOD_LIST, METHOD_SPEC, TYPE_DEF, TYPE_REF, TYPE_SPEC,
-};
 use clr_base::{Bytes, FieldId, Memory, MethId, SigId};
+use image_rows::{
+    FIELD, FIELD_LIST, METHOD_DEF, METHOD_LIST, METHOD_SPEC, TYPE_DEF, TYPE_REF, TYPE_SPEC, loose,
+};
 use sqlite_items::Items;
 use std::alloc::Global;
 use type_tree::{Locals, Member, WorldFile};

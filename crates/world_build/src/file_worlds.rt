@@ -1,35 +1,33 @@
 //! What each file adds to a world.
 ghost use Rattle.std.specs.Prelude.{◌≡◌, ◌+◌, ◌≤◌, ◌++◌, [], ◌∷◌, true, length, map, OnOk};
 ghost use Rattle.world_build.specs.Bodies as bodies;
-ghost use Rattle.world_build.specs.Cells.{rows_of};
+ghost use Rattle.image_rows.specs.Cells.{rows_of};
 ghost use Rattle.world_build.specs.Counts.{are_few, totals_of};
-ghost use Rattle.world_build.specs.CoreTable.{core_methods};
-ghost use Rattle.world_build.specs.Definitions as definitions;
+ghost use Rattle.core_types.specs.CoreTable.{core_methods};
+ghost use Rattle.type_members.specs.Definitions as definitions;
 ghost use Rattle.world_build.specs.Images.{bytes_of_each};
-ghost use Rattle.world_build.specs.MemberIndexes.{IsIndexOf};
-ghost use Rattle.world_build.specs.MemberTable as table;
+ghost use Rattle.type_members.specs.MemberIndexes.{IsIndexOf};
+ghost use Rattle.type_members.specs.MemberTable as table;
 ghost use Rattle.world_build.specs.References as references;
 ghost use Rattle.world_build.specs.Signatures as signatures;
-ghost use Rattle.world_build.specs.Trees.{AreNumbered};
+ghost use Rattle.type_members.specs.Trees.{AreNumbered};
 ghost use Rattle.world_build.specs.World as spec;
-ghost use Rattle.world_build.specs.WorldNames as names_of;
+ghost use Rattle.type_names.specs.WorldNames as names_of;
 
 use crate::bodies::file_bodies;
-use crate::definitions::CORE_METHOD_COUNT;
 use crate::file_definitions::push_definitions;
-use crate::file_names::FileNames;
 use crate::file_signatures::push_signatures;
 use crate::file_tokens::{Firsts, file_tokens};
-use crate::member_index::MemberIndex;
 use crate::member_refs::members_of_refs;
-use crate::member_table::MemberTable;
-use crate::names::Names;
 use crate::reader::Reader;
-use crate::table_numbers::{FIELD, METHOD_DEF};
 use cli_tables::Tables;
 use clr_base::Memory;
+use core_types::Names;
+use image_rows::{FIELD, METHOD_DEF};
 use sqlite_items::Items;
 use std::alloc::Global;
+use type_members::{CORE_METHOD_COUNT, MemberIndex, MemberTable};
+use type_names::FileNames;
 use type_tree::{BodyPlace, Def, KeyList, WorldFile};
 
 /// The parts of a world to which each file adds its own.

@@ -3,16 +3,15 @@ ghost use Rattle.std.specs.Prelude.{◌≡◌, ◌<◌, ◌^◌, All, List, leng
 ghost use Rattle.cli_tables.specs.Metadata.{Metadata};
 ghost use Rattle.world_build.specs.Counts.{are_few, totals_of, with_file};
 ghost use Rattle.world_build.specs.Images.{GivesImages, bytes_of_each, images_of, next_image_of};
-ghost use Rattle.world_build.specs.Refusals.{GivesOutcome};
-ghost use Rattle.world_build.specs.Rows.{ArePassed};
-ghost use Rattle.world_build.specs.SignatureChecks.{AreSigned};
+ghost use Rattle.image_rows.specs.Refusals.{GivesOutcome};
+ghost use Rattle.image_rows.specs.Rows.{ArePassed};
+ghost use Rattle.image_rows.specs.SignatureChecks.{AreSigned};
 ghost use Rattle.world_build.specs.World.{tables_in};
 
 use crate::counts::{Totals, count_file};
-use crate::image::read_image;
-use crate::refusal::Refusal;
 use cli_tables::Tables;
 use clr_base::ImageFault;
+use image_rows::{Refusal, read_image};
 use sqlite_items::Items;
 use std::alloc::{AllocError, Global};
 

@@ -4,31 +4,27 @@ ghost use Rattle.std.specs.Option.{option_map, option_map_or};
 ghost use Rattle.cli_tables.specs.Layout.{row_count};
 ghost use Rattle.type_tree.specs.declared.tree.Key.TheVariants as key;
 ghost use Rattle.world_build.specs.Signatures as spec;
-ghost use Rattle.world_build.specs.Trees.{AreNumbered, tree as tree_of};
+ghost use Rattle.type_members.specs.Trees.{AreNumbered, tree as tree_of};
 
-use crate::cells::blob;
-use crate::table_numbers::STAND_ALONE_SIG;
-use crate::trees::{row_counts, tree, value_or};
-use crate::type_rows::TypeRows;
 use cli_sigs::{SigTyList, read_locals};
 use cli_tables::Tables;
 use clr_base::{Memory, SigId};
+use image_rows::{LOCALS_CODE, STAND_ALONE_SIG, begins_with, blob, row_counts, value_or};
 use sqlite_items::Items;
 use std::alloc::Global;
+use type_members::tree;
+use type_names::TypeRows;
 use type_tree::{Key, KeyList, Locals};
-
-/// The byte that a list of local variables begins with.
-const LOCAL_SIG: u8 = 0x07;
 
 /// The types that a row lists, none where its blob doesn't begin with 07.
 #[tactic(auto, unfolding(crate::specs::Signatures::locals_in, cli_tables::specs::Schema::columns))]
-pub fn locals_in(alloc: Global, tables: &Tables<'_>, row: u32) -> Result<Option<SigTyList>, Memory>
+fn locals_in(alloc: Global, tables: &Tables<'_>, row: u32) -> Result<Option<SigTyList>, Memory>
     requires first { 1 ≤ row }
     requires last { row ≤ row_count tables.now.tables 0x11 }
     ensures { IfOk result (λ listed. listed ≡ spec.locals_in tables.now row) }
 {
     let bytes = blob(tables, STAND_ALONE_SIG, row, 0);
-    if bytes.first() != Some(&LOCAL_SIG) {
+    if !begins_with(LOCALS_CODE, bytes) {
         return Ok(None);
     }
     let read = read_locals(alloc, bytes, &row_counts(tables));

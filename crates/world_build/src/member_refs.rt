@@ -6,18 +6,17 @@ ghost use Rattle.world_build.specs.References.{member_ref as member_of_row};
 
 use crate::reader::Reader;
 use crate::references::{CLASS, NAME, SIGNATURE, member_ref};
-use crate::room::with_room;
-use crate::table_numbers::MEMBER_REF;
 use cli_tables::Tables;
 use clr_base::Memory;
+use image_rows::MEMBER_REF;
 use indexmap::IndexMap;
 use sqlite_items::Items;
 use std::alloc::Global;
-use type_tree::Member;
+use type_tree::{Member, with_room};
 
 /// What a MemberRef row says: the number in each of its columns. Rows that say the same have the same member.
 #[derive(Clone, Copy, Debug, PartialEq, Eq, Hash)]
-pub struct RefCells {
+pub(crate) struct RefCells {
     pub class: u32,
     pub name: u32,
     pub signature: u32,

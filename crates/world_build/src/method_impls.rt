@@ -3,17 +3,16 @@ ghost use Rattle.std.specs.Prelude.{◌≡◌, ◌<◌, ◌≤◌, map, IfOk};
 ghost use Rattle.cli_tables.specs.Layout.{row_count};
 ghost use Rattle.world_build.specs.MemberRefs.{members_of_refs};
 ghost use Rattle.world_build.specs.References as spec;
-ghost use Rattle.world_build.specs.RowIndexes.{AreRows, Indexes};
+ghost use Rattle.type_members.specs.RowIndexes.{AreRows, Indexes};
 
-use crate::cells::{RowOf, coded};
 use crate::named_members::{method_only, named_member, named_owner};
 use crate::reader::Reader;
-use crate::row_index::RowIndex;
-use crate::table_numbers::METHOD_IMPL;
 use cli_tables::CodedIndex;
 use clr_base::Memory;
+use image_rows::{METHOD_IMPL, RowOf, coded};
 use sqlite_items::Items;
 use std::alloc::Global;
+use type_members::RowIndex;
 use type_tree::{Impl, Member};
 
 /// The columns MethodBody and MethodDeclaration of MethodImpl.
@@ -35,7 +34,7 @@ fn impl_member(reader: &Reader<'_, '_>, row: u32, column: u8) -> Option<RowOf>
 
 /// The body and the declaration in a MethodImpl row, given the members of all MemberRef rows.
 #[tactic(auto, unfolding(crate::specs::References::impl_of))]
-pub fn impl_of(
+fn impl_of(
     alloc: Global,
     reader: &Reader<'_, '_>,
     refs: &[Member],

@@ -4,17 +4,16 @@ ghost use Rattle.cli_tables.specs.Layout.{row_count};
 ghost use Rattle.world_build.specs.MemberRefs.{members_of_refs};
 ghost use Rattle.world_build.specs.References as spec;
 
-use crate::cells::{RowOf, blob, coded};
 use crate::named_members::{method_only, named_member, named_owner};
 use crate::reader::Reader;
 use crate::references::method_member;
-use crate::table_numbers::METHOD_SPEC;
-use crate::trees::{row_counts, trees, value_or};
 use cli_sigs::read_method_spec;
 use cli_tables::{CodedIndex, Tables};
 use clr_base::{Memory, MethId};
+use image_rows::{METHOD_SPEC, RowOf, blob, coded, row_counts, value_or};
 use sqlite_items::Items;
 use std::alloc::Global;
+use type_members::trees;
 use type_tree::{Key, Member, MethKey, Ty, TyList};
 
 /// The columns of MethodSpec: Method and Instantiation.
@@ -37,7 +36,7 @@ fn spec_row(tables: &Tables<'_>, row: u32) -> Option<RowOf>
 
 /// The arguments of the method in a MethodSpec row.
 #[tactic(auto, unfolding(crate::specs::References::spec_args, cli_tables::specs::Schema::columns))]
-pub fn spec_args(alloc: Global, reader: &Reader<'_, '_>, row: u32) -> Result<TyList, Memory>
+fn spec_args(alloc: Global, reader: &Reader<'_, '_>, row: u32) -> Result<TyList, Memory>
     requires first { 1 ≤ row }
     requires last { row ≤ row_count reader.now.tables.tables 0x2B }
     ensures { IfOk result (λ args. args ≡ spec.spec_args reader.now row) }
@@ -51,7 +50,7 @@ pub fn spec_args(alloc: Global, reader: &Reader<'_, '_>, row: u32) -> Result<TyL
 
 /// The method in a MethodSpec row, none where it is missing, given the members of all MemberRef rows.
 #[tactic(auto, unfolding(crate::specs::References::spec_method))]
-pub fn spec_method(reader: &Reader<'_, '_>, refs: &[Member], row: u32) -> Option<MethId>
+fn spec_method(reader: &Reader<'_, '_>, refs: &[Member], row: u32) -> Option<MethId>
     requires first { 1 ≤ row }
     requires last { row ≤ row_count reader.now.tables.tables 0x2B }
     requires refs { refs.now ≡ members_of_refs reader.now }

@@ -3,15 +3,13 @@ ghost use Rattle.std.specs.Prelude.{◌≡◌, IfOk};
 ghost use Rattle.world_build.specs.MemberRefs.{members_of_refs};
 ghost use Rattle.world_build.specs.References as spec;
 
-use crate::cells::RowOf;
-use crate::owners::loose;
 use crate::reader::Reader;
 use crate::references::ref_owner;
-use crate::table_numbers::{MEMBER_REF, METHOD_DEF, METHOD_LIST};
-use crate::trees::{def_type, nothing};
 use clr_base::{Memory, MethId};
+use image_rows::{MEMBER_REF, METHOD_DEF, METHOD_LIST, RowOf, loose};
 use sqlite_items::Items;
 use std::alloc::Global;
+use type_members::{def_type, nothing};
 use type_tree::{Member, Ty};
 
 /// The member of a MethodDef row: none where no definition owns the row.

@@ -1,24 +1,21 @@
 //! What the rows of a file are read by.
 ghost use Rattle.std.specs.Prelude.{◌≡◌, ◌+◌, ◌-◌, ◌≤◌, IfOk};
 ghost use Rattle.cli_tables.specs.Layout.{row_count};
-ghost use Rattle.world_build.specs.Cells.{owner_of};
-ghost use Rattle.world_build.specs.MemberTable as table;
-ghost use Rattle.world_build.specs.Names.{number_in};
+ghost use Rattle.image_rows.specs.Cells.{owner_of};
+ghost use Rattle.type_members.specs.MemberTable as table;
+ghost use Rattle.core_types.specs.Names.{number_in};
 ghost use Rattle.world_build.specs.Readers.{CanRead};
-ghost use Rattle.world_build.specs.Trees.{AreNumbered};
+ghost use Rattle.type_members.specs.Trees.{AreNumbered};
 
-use crate::member_index::MemberIndex;
-use crate::member_table::MemberTable;
-use crate::names::Names;
-use crate::open_method::Open;
-use crate::owners::owners;
-use crate::table_numbers::{METHOD_DEF, METHOD_LIST};
-use crate::type_rows::TypeRows;
 use cli_tables::Tables;
 use clr_base::{FieldId, Memory, MethId, NameId};
+use core_types::Names;
+use image_rows::{METHOD_DEF, METHOD_LIST, owners};
 use sqlite_items::Items;
 use std::alloc::Global;
 use std::marker::Model;
+use type_members::{MemberIndex, MemberTable, Open};
+use type_names::TypeRows;
 use type_tree::Ty;
 
 /// What the rows of a file are read by: the names and the members of the world, the types of the file's rows, its tables,

@@ -1,19 +1,19 @@
 //! The members that MemberRef rows name (ECMA-335 II.22.25), and the types that own them.
-ghost use Rattle.std.specs.Prelude.{◌≡◌, ◌≤◌, ℕ, Option, IfOk};
+ghost use Rattle.std.specs.Prelude.{◌≡◌, ◌≤◌, Option, IfOk};
 ghost use Rattle.cli_tables.specs.Layout.{row_count};
 ghost use Rattle.type_tree.specs.Kinds as kinds;
 ghost use Rattle.world_build.specs.References as spec;
 
-use crate::cells::{RowOf, blob, coded, text};
-use crate::members::no_method;
-use crate::open_method::open_of;
 use crate::reader::Reader;
-use crate::table_numbers::{MEMBER_REF, TYPE_DEF, TYPE_REF, TYPE_SPEC};
-use crate::trees::{nothing, row_counts, tree, type_at_row, value_or};
 use cli_sigs::{SigMethod, SigTy, read_field, read_method};
 use cli_tables::{CodedIndex, Tables};
 use clr_base::{FieldId, Memory, MethId, NameId};
+use image_rows::{
+    FIELD_CODE, MEMBER_REF, RowOf, TYPE_DEF, TYPE_REF, TYPE_SPEC, begins_with, blob, coded,
+    row_counts, text, value_or,
+};
 use std::alloc::Global;
+use type_members::{no_method, nothing, open_of, tree, type_at_row};
 use type_tree::{Member, Ty};
 
 /// The columns of MemberRef: Class, Name and Signature.
@@ -22,9 +22,6 @@ pub const CLASS: u8 = 0;
 pub const NAME: u8 = 1;
 
 pub const SIGNATURE: u8 = 2;
-
-/// The code that the signature of a field begins with (II.23.2.4).
-const FIELD_CODE: u8 = 0x06;
 
 /// The type that owns a member, by the row that is its parent: none owns one of a method or of a module.
 fn parent_type(alloc: Global, reader: &Reader<'_, '_>, parent: Option<RowOf>) -> Result<Ty, Memory>
@@ -49,19 +46,9 @@ pub fn ref_owner(alloc: Global, reader: &Reader<'_, '_>, row: u32) -> Result<Ty,
     parent_type(alloc, reader, coded(CodedIndex::MemberRefParent, class))
 }
 
-/// Whether a blob begins with a code.
-fn begins_with(code: u8, bytes: &[u8]) -> bool
-    ensures { result ≡ spec.begins_with code bytes.now }
-{
-    match bytes.first() {
-        Some(byte) => *byte == code,
-        None => false,
-    }
-}
-
 /// What the blob of a MemberRef row says, read as the signature of a method.
 #[tactic(auto, unfolding(crate::specs::References::ref_method_sig, cli_tables::specs::Schema::columns))]
-pub fn ref_method_sig(alloc: Global, tables: &Tables<'_>, row: u32) -> Result<SigMethod, Memory>
+fn ref_method_sig(alloc: Global, tables: &Tables<'_>, row: u32) -> Result<SigMethod, Memory>
     requires first { 1 ≤ row }
     requires last { row ≤ row_count tables.now.tables 0x0A }
     ensures { IfOk result (λ sig. sig ≡ spec.ref_method_sig tables.now row) }
@@ -73,7 +60,7 @@ pub fn ref_method_sig(alloc: Global, tables: &Tables<'_>, row: u32) -> Result<Si
 
 /// What the blob of a MemberRef row says, read as the signature of a field.
 #[tactic(auto, unfolding(crate::specs::References::ref_field_sig, cli_tables::specs::Schema::columns))]
-pub fn ref_field_sig(alloc: Global, tables: &Tables<'_>, row: u32) -> Result<SigTy, Memory>
+fn ref_field_sig(alloc: Global, tables: &Tables<'_>, row: u32) -> Result<SigTy, Memory>
     requires first { 1 ≤ row }
     requires last { row ≤ row_count tables.now.tables 0x0A }
     ensures { IfOk result (λ sig. sig ≡ spec.ref_field_sig tables.now row) }

@@ -4,16 +4,15 @@ ghost use Rattle.cli_tables.specs.Schema.{columns};
 ghost use Rattle.type_tree.specs.declared.tree.Key.TheVariants as key;
 ghost use Rattle.type_tree.specs.declared.tree.Ty.TheVariants as ty;
 ghost use Rattle.world_build.specs.Signatures as spec;
-ghost use Rattle.world_build.specs.Trees.{AreNumbered};
+ghost use Rattle.type_members.specs.Trees.{AreNumbered};
 
-use crate::cells::RowOf;
-use crate::owners::owners;
-use crate::trees::{def_type, type_at_row};
-use crate::type_rows::TypeRows;
 use cli_tables::Tables;
 use clr_base::Memory;
+use image_rows::{RowOf, owners};
 use sqlite_items::{Boxed, Items};
 use std::alloc::Global;
+use type_members::{def_type, type_at_row};
+use type_names::TypeRows;
 use type_tree::{Key, KeyList, Ty};
 
 /// Appends the types that the rows of a table are: TypeDef, TypeRef or TypeSpec (ECMA-335 II.22.37 to II.22.39).

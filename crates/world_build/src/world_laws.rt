@@ -3,11 +3,11 @@ ghost use Rattle.std.specs.Prelude.{◌≡◌, ◌⊎◌, ◌+◌, ◌≤◌, �
 ghost use Rattle.cli_tables.specs.Heaps.{text_at};
 ghost use Rattle.cli_tables.specs.Layout.{cell, row_count};
 ghost use Rattle.cli_tables.specs.Metadata.{Metadata};
-ghost use Rattle.world_build.specs.Cells.{rows_of, text};
+ghost use Rattle.image_rows.specs.Cells.{rows_of, text};
 ghost use Rattle.world_build.specs.DefNames.{names_in};
 ghost use Rattle.world_build.specs.Roots.{HasRoots};
-ghost use Rattle.world_build.specs.Rows.{ArePassed};
-ghost use Rattle.world_build.specs.TypeNames.{full_name};
+ghost use Rattle.image_rows.specs.Rows.{ArePassed};
+ghost use Rattle.image_rows.specs.TypeNames.{full_name};
 ghost use Rattle.world_build.specs.World.{tables_in, world};
 
 use crate::roots::RootForm;

@@ -2,26 +2,22 @@
 ghost use Rattle.std.specs.Prelude.{◌≡◌, ◌≤◌, [], All, true, length, IfOk};
 ghost use Rattle.std.proofs.Math.ListN.{replicate};
 ghost use Rattle.world_build.specs.Counts.{are_few, totals_of};
-ghost use Rattle.world_build.specs.CoreLibrary as library;
+ghost use Rattle.core_types.specs.CoreLibrary as library;
 ghost use Rattle.world_build.specs.Images.{bytes_of_each};
 ghost use Rattle.world_build.specs.Signatures as signatures;
 ghost use Rattle.world_build.specs.World as spec;
 
-use crate::core_parts::core_library;
-use crate::core_type::CoreType;
 use crate::counts::row_sigs;
 use crate::file_worlds::{Growing, push_files};
-use crate::member_index::MemberIndex;
-use crate::member_tables::all_members;
-use crate::resolve::resolve_files;
-use crate::room::with_room;
-use crate::table_numbers::STAND_ALONE_SIG;
-use crate::world_names::name_files;
 use cli_tables::Tables;
 use clr_base::Memory;
+use core_types::{CoreType, core_library};
+use image_rows::STAND_ALONE_SIG;
 use sqlite_items::{Boxed, Items};
 use std::alloc::Global;
-use type_tree::{BodyPlace, Def, Key, KeyList, Ty, WorldParts};
+use type_members::{MemberIndex, all_members};
+use type_names::{name_files, resolve_files};
+use type_tree::{BodyPlace, Def, Key, KeyList, Ty, WorldParts, with_room};
 
 /// The tree of a type of the core without arguments.
 fn plain(alloc: Global, t: CoreType) -> Ty

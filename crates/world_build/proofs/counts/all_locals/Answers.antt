@@ -1,6 +1,6 @@
 use Rattle.std.proofs.Common.{arith}
 use Rattle.world_build.proofs.Counted.{capped_few, no_locals, more_locals, count_few, these_locals}
-use Rattle.world_build.proofs.Signed.{no_notes}
+use Rattle.image_rows.proofs.Signed.{no_notes}
 use Rattle.world_build.specs.Signatures.{locals_before}
 use Rattle.world_build.proofs.counts.all_locals.Goals as goal
 

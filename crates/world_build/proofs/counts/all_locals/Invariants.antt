@@ -1,6 +1,6 @@
 use Rattle.std.proofs.Common.{◌≡◌}
 use Rattle.world_build.specs.Counts.{capped, local_count}
-use Rattle.world_build.specs.SignatureChecks.{AreNotes}
+use Rattle.image_rows.specs.SignatureChecks.{AreNotes}
 use Rattle.world_build.specs.Signatures.{locals_before}
 use Rattle.world_build.proofs.counts.all_locals.Given as goal
 

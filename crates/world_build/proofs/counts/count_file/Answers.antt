@@ -4,8 +4,8 @@ use Rattle.clr_base.specs.Checks.{check, first_fault}
 use Rattle.clr_base.specs.declared.image_fault.FaultKind.TheVariants.{TooMany}
 use Rattle.world_build.specs.Counts.{are_few, with_file}
 use Rattle.world_build.proofs.FewEnough.{count_passes, count_fails}
-use Rattle.world_build.proofs.Giving.{gives_fault}
-use Rattle.world_build.proofs.Passing.{one_passes}
+use Rattle.image_rows.proofs.Giving.{gives_fault}
+use Rattle.image_rows.proofs.Passing.{one_passes}
 use Rattle.world_build.proofs.counts.count_file.Goals as goal
 
 pub returns-in_err-check-clause-exact : goal.returns-in_err-check-clause-exact

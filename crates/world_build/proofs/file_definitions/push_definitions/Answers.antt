@@ -1,8 +1,8 @@
 use Rattle.std.proofs.Common.{◌≡◌, ◌++◌, ◌+◌, ◌∙◌, ap, ap₂, map, arith}
 use Rattle.std.specs.List.{range_with_len}
-use Rattle.world_build.specs.Cells.{rows}
-use Rattle.world_build.specs.Definitions.{def_of}
-use Rattle.world_build.specs.MemberTable.{run_at}
+use Rattle.image_rows.specs.Cells.{rows}
+use Rattle.type_members.specs.Definitions.{def_of}
+use Rattle.type_members.specs.MemberTable.{run_at}
 use Rattle.world_build.specs.References.{impls_of}
 use Rattle.world_build.proofs.Pushed.{pushed}
 use Rattle.world_build.proofs.file_definitions.push_definitions.Goals as goal

@@ -1,7 +1,7 @@
 use Rattle.std.proofs.Common.{◌≡◌, ◌++◌, map}
 use Rattle.std.specs.List.{range_with_len}
-use Rattle.world_build.specs.Definitions.{def_of}
-use Rattle.world_build.specs.MemberTable.{run_at}
+use Rattle.type_members.specs.Definitions.{def_of}
+use Rattle.type_members.specs.MemberTable.{run_at}
 use Rattle.world_build.specs.References.{impls_of}
 use Rattle.world_build.proofs.file_definitions.push_definitions.Given as goal
 

@@ -1,5 +1,5 @@
 use Rattle.world_build.specs.References.{method_spec}
-use Rattle.world_build.proofs.MemberLists.{row_more}
+use Rattle.type_members.proofs.MemberLists.{row_more}
 use Rattle.world_build.proofs.file_tokens.method_specs.Goals as goal
 
 pub loop-row-preserved : goal.loop-row-preserved

@@ -4,14 +4,14 @@ use Rattle.std.specs.declared.alloc.Global.{Global}
 use Rattle.std.proofs.lemmas.List.{append-nil, length-map}
 use Rattle.std.proofs.lemmas.Option.{slice_get_read}
 use Rattle.world_build.specs.Bodies.{file_bodies}
-use Rattle.world_build.specs.Image.{metadata_in}
+use Rattle.image_rows.specs.Image.{metadata_in}
 use Rattle.world_build.specs.Images.{bytes_of_each}
 use Rattle.world_build.specs.Signatures.{file_keys, sigs_in}
 use Rattle.world_build.specs.World.{file_defs, reader, world_file}
 use Rattle.world_build.proofs.EachBytes.{bytes_file}
-use Rattle.world_build.proofs.EachFile.{each_file}
+use Rattle.type_members.proofs.EachFile.{each_file}
 use Rattle.world_build.proofs.FileParts.{can_read, defs_are, fields_small, image_is, methods_small, reader_is, sigs_before, sigs_small, slice_get_map, tokens_are}
-use Rattle.world_build.proofs.PerFile.{before_more, before_none, names_count, names_read}
+use Rattle.type_members.proofs.PerFile.{before_more, before_none, names_count, names_read}
 use Rattle.world_build.proofs.file_worlds.push_files.Goals as goal
 
 pub loop-file-init : goal.loop-file-init

@@ -1,8 +1,8 @@
 use Rattle.std.proofs.Common.{◌≡◌, ◌+◌, ◌++◌, [], ◌∷◌, take}
 use Rattle.world_build.specs.Bodies.{file_bodies}
 use Rattle.world_build.specs.Images.{bytes_of_each}
-use Rattle.world_build.specs.MemberTable.{of_each}
-use Rattle.world_build.specs.Resolution.{rows_before}
+use Rattle.type_members.specs.MemberTable.{of_each}
+use Rattle.type_names.specs.Resolution.{rows_before}
 use Rattle.world_build.specs.Signatures.{file_keys}
 use Rattle.world_build.specs.World.{file_defs, of_bytes, reader, world_file}
 use Rattle.world_build.proofs.file_worlds.push_files.Given as goal

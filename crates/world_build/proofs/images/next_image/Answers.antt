@@ -1,7 +1,7 @@
 use Rattle.std.proofs.lemmas.Result.{err_from_is_err_and}
 use Rattle.clr_base.proofs.Checks.{outcome_value}
 use Rattle.world_build.specs.Counts.{with_file, count_checks}
-use Rattle.world_build.proofs.Giving.{gives_on}
+use Rattle.image_rows.proofs.Giving.{gives_on}
 use Rattle.world_build.proofs.ManyImages.{own_fails, counts_fail, counts_pass}
 use Rattle.world_build.proofs.images.next_image.Goals as goal
 

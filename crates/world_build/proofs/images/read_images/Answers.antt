@@ -2,9 +2,9 @@ use Rattle.std.proofs.Common.{arith, ◌+◌, [], ◌∷◌, ◌++◌, Err, drop
 use Rattle.std.proofs.lemmas.Grind.{common_steps}
 use Rattle.clr_base.proofs.Checks.{outcome_value}
 use Rattle.world_build.specs.Counts.{are_few, totals_of, with_file}
-use Rattle.world_build.specs.Image.{metadata_in}
+use Rattle.image_rows.specs.Image.{metadata_in}
 use Rattle.world_build.specs.Images.{file_checks, next_image_of, images_behind}
-use Rattle.world_build.proofs.Giving.{given_fault}
+use Rattle.image_rows.proofs.Giving.{given_fault}
 use Rattle.world_build.proofs.ManyImages.{next_total, next_passes, next_fails, none_behind, one_more, all_of_them}
 use Rattle.world_build.proofs.images.read_images.Goals as goal
 

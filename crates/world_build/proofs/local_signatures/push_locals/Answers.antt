@@ -2,9 +2,9 @@ use Rattle.std.proofs.Common.{ℕ, [], ◌∷◌, ◌<◌, ◌+◌, ◌++◌, �
 use Rattle.std.specs.Option.{option_map, option_map_or}
 use Rattle.std.proofs.lemmas.List.{append-nil}
 use Rattle.type_tree.specs.declared.tree.Key.TheVariants as key
-use Rattle.world_build.specs.Cells.{rows}
+use Rattle.image_rows.specs.Cells.{rows}
 use Rattle.world_build.specs.Signatures.{listed, locals_in, run_at, sigs_in}
-use Rattle.world_build.specs.Trees.{tree}
+use Rattle.type_members.specs.Trees.{tree}
 use Rattle.world_build.proofs.LocalsCount.{locals_more, locals_most, count_placed, locals_none}
 use Rattle.world_build.proofs.Pushed.{appended, enumerate_row}
 use Rattle.world_build.proofs.local_signatures.push_locals.Goals as goal

@@ -2,7 +2,7 @@ use Rattle.std.proofs.Common.{◌≡◌, ◌+◌, ◌++◌, map}
 use Rattle.std.specs.List.{flat_map, enumerate_from, range_with_len}
 use Rattle.type_tree.specs.declared.tree.Key.TheVariants as key
 use Rattle.world_build.specs.Signatures.{listed, locals_in, locals_before, row_sigs, run_at}
-use Rattle.world_build.specs.Trees.{tree}
+use Rattle.type_members.specs.Trees.{tree}
 use Rattle.world_build.proofs.local_signatures.push_locals.Given as goal
 
 abbrev pub invariant-loop-row : goal.invariant-loop-row

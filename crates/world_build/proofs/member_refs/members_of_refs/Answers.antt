@@ -1,5 +1,5 @@
 use Rattle.world_build.specs.References.{member_ref}
-use Rattle.world_build.proofs.MemberLists.{row_more}
+use Rattle.type_members.proofs.MemberLists.{row_more}
 use Rattle.world_build.proofs.member_refs.members_of_refs.Goals as goal
 
 pub loop-row-preserved : goal.loop-row-preserved

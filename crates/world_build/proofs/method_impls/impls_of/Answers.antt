@@ -1,4 +1,4 @@
-use Rattle.world_build.proofs.RowLists.{found_in}
+use Rattle.type_members.proofs.RowLists.{found_in}
 use Rattle.world_build.proofs.method_impls.impls_of.Goals as goal
 
 pub impls_in-requires-clause-rows : goal.impls_in-requires-clause-rows

@@ -1,7 +1,7 @@
 use Rattle.std.proofs.Common.{◌≤◌, ◌∙◌, ap, arith, sym}
 use Rattle.cli_tables.specs.Metadata.{Metadata}
 use Rattle.type_tree.specs.declared.parts.Member.TheVariants.{NoMember}
-use Rattle.world_build.specs.Cells.{rows}
+use Rattle.image_rows.specs.Cells.{rows}
 use Rattle.world_build.proofs.RefNotes.{refs_within, ref_given, ref_there}
 use Rattle.world_build.proofs.named_members.ref_member.Goals as goal
 

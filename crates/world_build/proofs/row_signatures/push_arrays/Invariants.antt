@@ -2,7 +2,7 @@ use Rattle.std.proofs.Common.{◌≡◌, ◌++◌, map, Some}
 use Rattle.std.specs.List.{range_with_len}
 use Rattle.type_tree.specs.declared.tree.Key.TheVariants as key
 use Rattle.type_tree.specs.declared.tree.Ty.TheVariants as ty
-use Rattle.world_build.specs.Trees.{type_at_row}
+use Rattle.type_members.specs.Trees.{type_at_row}
 use Rattle.world_build.proofs.row_signatures.push_arrays.Given as goal
 
 abbrev pub invariant-loop-row : goal.invariant-loop-row

@@ -1,10 +1,10 @@
 use Rattle.std.proofs.Common.{◌∙◌, false, get_or, ap, arith}
 use Rattle.type_tree.specs.declared.tree.Key.TheVariants as key
-use Rattle.world_build.specs.Cells.{owner_of, rows}
+use Rattle.image_rows.specs.Cells.{owner_of, rows}
 use Rattle.world_build.specs.References.{owner_type}
 use Rattle.world_build.specs.Signatures.{owners_in}
-use Rattle.world_build.specs.Trees.{def_type}
-use Rattle.world_build.proofs.MemberLists.{row_within, row_given}
+use Rattle.type_members.specs.Trees.{def_type}
+use Rattle.type_members.proofs.MemberLists.{row_within, row_given}
 use Rattle.world_build.proofs.Pushed.{pushed, all_pushed}
 use Rattle.world_build.proofs.row_signatures.push_owners.Goals as goal
 

@@ -1,7 +1,7 @@
 use Rattle.std.proofs.Common.{◌≡◌, ◌++◌, map}
 use Rattle.std.specs.List.{range_with_len}
 use Rattle.type_tree.specs.declared.tree.Key.TheVariants as key
-use Rattle.world_build.specs.Cells.{owner_of}
+use Rattle.image_rows.specs.Cells.{owner_of}
 use Rattle.world_build.specs.References.{owner_type}
 use Rattle.world_build.proofs.row_signatures.push_owners.Given as goal
 

@@ -1,7 +1,7 @@
 use Rattle.std.proofs.Common.{Some, ap, arith}
 use Rattle.type_tree.specs.declared.tree.Key.TheVariants as key
 use Rattle.world_build.specs.Signatures.{types_in}
-use Rattle.world_build.specs.Trees.{type_at_row}
+use Rattle.type_members.specs.Trees.{type_at_row}
 use Rattle.world_build.proofs.Pushed.{pushed, all_pushed}
 use Rattle.world_build.proofs.row_signatures.push_types.Goals as goal
 

@@ -1,4 +1,4 @@
-use Rattle.world_build.proofs.Passing.{type_text}
+use Rattle.image_rows.proofs.Passing.{type_text}
 use Rattle.world_build.proofs.world_laws.type_names_are_texts.Goals as goal
 
 pub returns : goal.returns

@@ -1,7 +1,7 @@
 use Rattle.std.proofs.Common.{arith}
 use Rattle.world_build.specs.Counts.{all_locals}
 use Rattle.world_build.specs.Signatures.{locals_before}
-use Rattle.world_build.specs.Cells.{rows}
+use Rattle.image_rows.specs.Cells.{rows}
 use Rattle.world_build.proofs.Counted.{capped_few}
 use Rattle.world_build.proofs.FewEnough.{are_below, as_few, as_many}
 use Rattle.world_build.proofs.counts.Totals.with_file.Goals as goal

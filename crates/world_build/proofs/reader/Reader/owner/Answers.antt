@@ -1,8 +1,8 @@
 use Rattle.std.proofs.Common.{◌≡◌, ℕ, ◌+◌, ◌-◌, ◌<◌, ◌≤◌, sym, ap, ◌∙◌, subst, arith}
 use Rattle.cli_tables.specs.Metadata.{Metadata}
-use Rattle.world_build.specs.Cells.{owner_of, rows}
+use Rattle.image_rows.specs.Cells.{owner_of, rows}
 use Rattle.world_build.specs.References.{Reader}
-use Rattle.world_build.proofs.MemberLists.{row_within, row_given}
+use Rattle.type_members.proofs.MemberLists.{row_within, row_given}
 use Rattle.world_build.proofs.reader.Reader.owner.Goals as goal
 
 pub bounds-owners-row : goal.bounds-owners-row

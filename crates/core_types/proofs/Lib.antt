@@ -1,0 +1,3 @@
+pub mod CoreFacts
+pub mod CoreNames
+pub mod NameLemmas

@@ -1,0 +1,3 @@
+pub mod CoreLibrary
+pub mod CoreTable
+pub mod Names

@@ -1,0 +1,9 @@
+pub mod Enclosing
+pub mod FullTypeNames
+pub mod Giving
+pub mod Inside
+pub mod Noted
+pub mod Passing
+pub mod RefNames
+pub mod Runs
+pub mod Signed

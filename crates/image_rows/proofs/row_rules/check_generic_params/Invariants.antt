@@ -1,0 +1,8 @@
+use Rattle.std.proofs.Common.{◌≡◌, ◌+◌, Ok}
+use Rattle.clr_base.specs.Checks.{first_fault, each}
+use Rattle.image_rows.specs.Rows.{row_checks}
+use Rattle.image_rows.specs.RowsBefore.{AreOwned}
+use Rattle.image_rows.proofs.row_rules.check_generic_params.Given as goal
+
+abbrev pub invariant-loop-row : goal.invariant-loop-row
+invariant-loop-row l = (first_fault (each l.row (λ r. row_checks l.tables 0x2a (r + 1))) ≡ Ok (tt {0})) × AreOwned l.tables l.row l.owned

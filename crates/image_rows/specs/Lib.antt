@@ -1,0 +1,9 @@
+pub mod Blobs
+pub mod Cells
+pub mod Image
+pub mod Nesting
+pub mod Refusals
+pub mod Rows
+pub mod RowsBefore
+pub mod SignatureChecks
+pub mod TypeNames

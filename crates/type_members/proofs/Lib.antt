@@ -1,0 +1,16 @@
+pub mod EachFile
+pub mod FileSums
+pub mod FirstFound
+pub mod MemberFinds
+pub mod MemberGroupLists
+pub mod MemberLists
+pub mod MemberParts
+pub mod MembersFit
+pub mod Named
+pub mod NamesThere
+pub mod PerFile
+pub mod PlacesFit
+pub mod RowLists
+pub mod SameTrees
+pub mod SigFolds
+pub mod TreesFit

@@ -1,0 +1,16 @@
+pub mod AssemblyNames
+pub mod CoreSplits
+pub mod FileRows
+pub mod FindDefs
+pub mod FindTypes
+pub mod Finders
+pub mod FirstKeys
+pub mod Firsts
+pub mod KeyLists
+pub mod NamesCount
+pub mod Numbered
+pub mod Placed
+pub mod RefScopes
+pub mod Settled
+pub mod Targets
+pub mod TextNumbers

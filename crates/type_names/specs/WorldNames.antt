@@ -1,0 +1,58 @@
+-- The names of a world, and what the rows of its files are called.
+use Rattle.std.specs.Prelude.{ℕ, List, [], ◌∷◌, ◌++◌, map, filter, is_none, Option, None, Some}
+use Rattle.std.specs.List.{flat_map, enumerate_from}
+use Rattle.clr_base.specs.declared.ids.NameId.{NameId}
+use Rattle.cli_tables.specs.Metadata.{Metadata}
+use Rattle.type_names.specs.declared.file_names.FileNames.{FileNames}
+use Rattle.type_names.specs.declared.resolution.DefPlace.{DefPlace}
+use Rattle.type_names.specs.declared.type_rows.Target.{Target}
+use Rattle.type_names.specs.declared.type_rows.Target.TheVariants as target
+use Rattle.type_names.specs.declared.type_rows.TypeRows.{TypeRows}
+use Rattle.core_types.specs.CoreLibrary.{texts_in_order}
+use Rattle.image_rows.specs.Cells.{rows, rows_of, text}
+use Rattle.core_types.specs.Names.{first_seen, number_in}
+use Rattle.type_names.specs.Resolution.{def_at, resolved, first_def}
+use Rattle.image_rows.specs.TypeNames.{full_name, name_of_ref}
+
+-- the references of a file that name no definition
+abbrev pub missing_refs : List Metadata → ℕ → Metadata → List ℕ
+missing_refs files k m = filter (λ row. is_none (resolved files k m row)) (rows_of m 0x01)
+
+-- The texts of a file: the full names of its definitions, the names of the references that are missing, the names of its
+-- fields and of its methods.
+unfoldable pub file_texts : List Metadata → ℕ × Metadata → List (List ℕ)
+file_texts files (k, m) =
+    map (full_name m) (rows_of m 0x02) ++ map (name_of_ref m) (missing_refs files k m)
+    ++ map (λ row. text m 0x04 row 1) (rows_of m 0x04) ++ map (λ row. text m 0x06 row 3) (rows_of m 0x06)
+
+-- the core's names, the empty name, and the files' in their order, each once
+unfoldable pub names : List Metadata → List (List ℕ)
+names files = first_seen (texts_in_order ++ [] ∷ [] ++ flat_map (file_texts files) (enumerate_from 0 files))
+
+unfoldable pub name_id : List Metadata → List ℕ → NameId
+name_id files t = record { 0 = number_in (names files) t }
+
+-- ---- what the rows of a file are called
+
+-- what a TypeRef row names: its definition, or its name where that is missing
+abbrev pub target_at : List Metadata → List ℕ → Option DefPlace → Target
+target_at files name (Some place) = target.Def (def_at files place)
+target_at files name None = target.Missing (name_id files name)
+
+abbrev pub target_of : List Metadata → ℕ → Metadata → ℕ → Target
+target_of files k m row = target_at files (name_of_ref m row) (resolved files k m row)
+
+unfoldable pub type_rows : List Metadata → ℕ → Metadata → TypeRows
+type_rows files k m = record { first_def = first_def files k; defs = rows m 0x02; refs = map (target_of files k m) (rows_of m 0x01) }
+
+unfoldable pub file_names : List Metadata → ℕ → Metadata → FileNames
+file_names files k m = record {
+  defs = map (λ row. name_id files (full_name m row)) (rows_of m 0x02);
+  types = type_rows files k m;
+  fields = map (λ row. name_id files (text m 0x04 row 1)) (rows_of m 0x04);
+  methods = map (λ row. name_id files (text m 0x06 row 3)) (rows_of m 0x06);
+}
+
+-- of all files
+unfoldable pub all_file_names : List Metadata → List FileNames
+all_file_names files = map (λ f. file_names files f.0 f.1) (enumerate_from 0 files)

@@ -1,6 +1,0 @@
-use Rattle.std.proofs.Common.{sym}
-use Rattle.world_build.proofs.CoreNames.{def_named}
-use Rattle.world_build.proofs.core_parts.def_name.Goals as goal
-
-pub returns : goal.returns
-returns c = sym (def_named c.args.number c.requires)

@@ -1,7 +1,0 @@
-use Rattle.std.proofs.Common.{◌≡◌, map}
-use Rattle.std.specs.List.{range_with_len}
-use Rattle.world_build.specs.CoreTable.{text}
-use Rattle.world_build.proofs.core_parts.names.Given as goal
-
-abbrev pub invariant-loop-number : goal.invariant-loop-number
-invariant-loop-number l = l.names ≡ map text (range_with_len 0 l.number)

@@ -1,5 +1,0 @@
-use Rattle.world_build.proofs.RowLists.{found_in}
-use Rattle.world_build.proofs.formals.constraints_of.Goals as goal
-
-pub types_in-requires-clause-rows : goal.types_in-requires-clause-rows
-types_in-requires-clause-rows c = found_in c.args.tables.now 0x2C 0 c.args.constraints.now c.requires.constraints c.args.row c.rows-rows.result.now c.rows-rows.ensures

@@ -1,6 +1,0 @@
-use Rattle.std.proofs.Common.{◌≡◌, map, take}
-use Rattle.world_build.specs.Members.{formal_of}
-use Rattle.world_build.proofs.formals.formals_of.Given as goal
-
-abbrev pub invariant-loop-row : goal.invariant-loop-row
-invariant-loop-row l = l.formals ≡ map (formal_of l.types l.tables) (take l.row-index l.rows)

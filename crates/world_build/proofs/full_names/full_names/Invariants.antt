@@ -1,7 +1,0 @@
-use Rattle.std.proofs.Common.{◌≡◌, map}
-use Rattle.std.specs.List.{range_with_len}
-use Rattle.world_build.specs.TypeNames.{full_name}
-use Rattle.world_build.proofs.full_names.full_names.Given as goal
-
-abbrev pub invariant-loop-row : goal.invariant-loop-row
-invariant-loop-row l = l.names ≡ map (full_name l.tables) (range_with_len 1 l.row)

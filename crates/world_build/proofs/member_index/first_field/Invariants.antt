@@ -1,7 +1,0 @@
-use Rattle.std.proofs.Common.{◌≡◌, None, take}
-use Rattle.std.specs.List.{find}
-use Rattle.world_build.specs.MemberIndexes.{has_type}
-use Rattle.world_build.proofs.member_index.first_field.Given as goal
-
-abbrev pub invariant-loop-field : goal.invariant-loop-field
-invariant-loop-field l = find (has_type l.members l.ty) (take l.field-index l.fields) ≡ None

@@ -1,6 +1,0 @@
-use Rattle.std.proofs.Common.{◌≡◌, map, take}
-use Rattle.world_build.specs.MemberTable.{core_run}
-use Rattle.world_build.proofs.member_tables.core_members.Given as goal
-
-abbrev pub invariant-loop-def : goal.invariant-loop-def
-invariant-loop-def l = l.runs ≡ map core_run (take l.def-index l.defs)

@@ -1,5 +1,0 @@
-use Rattle.world_build.proofs.Enclosing.{SaidBehind}
-use Rattle.world_build.proofs.nesting.enclosing_rows.Given as goal
-
-abbrev pub invariant-loop-k : goal.invariant-loop-k
-invariant-loop-k l = SaidBehind l.tables l.k l.rows

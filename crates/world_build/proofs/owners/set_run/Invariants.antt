@@ -1,6 +1,0 @@
-use Rattle.std.proofs.Common.{◌≤◌, max}
-use Rattle.world_build.proofs.Runs.{RunSet}
-use Rattle.world_build.proofs.owners.set_run.Given as goal
-
-abbrev pub invariant-loop-row : goal.invariant-loop-row
-invariant-loop-row l = record { set : RunSet l.first l.row l.owner l.initial.owners l.owners; last : l.row ≤ max l.start l.stop }

@@ -1,4 +1,0 @@
-use Rattle.world_build.proofs.ref_names.+name_within.Given as goal
-
-abbrev pub decreases-name_within : goal.decreases-name_within
-decreases-name_within l = l.most

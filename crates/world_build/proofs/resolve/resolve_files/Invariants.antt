@@ -1,7 +1,0 @@
-use Rattle.std.proofs.Common.{◌≡◌, map, take}
-use Rattle.std.specs.List.{enumerate_from}
-use Rattle.world_build.specs.Numbering.{places_in}
-use Rattle.world_build.proofs.resolve.resolve_files.Given as goal
-
-abbrev pub invariant-loop-file : goal.invariant-loop-file
-invariant-loop-file l = l.found ≡ map (places_in l.files) (take l.file (enumerate_from 0 l.files))

@@ -1,4 +1,0 @@
-use Rattle.world_build.proofs.type_finder.TypeFinder.+resolved_within.Given as goal
-
-abbrev pub decreases-resolved_within : goal.decreases-resolved_within
-decreases-resolved_within l = l.most

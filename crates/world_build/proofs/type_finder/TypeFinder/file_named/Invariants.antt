@@ -1,5 +1,0 @@
-use Rattle.world_build.proofs.AssemblyNames.{AreOthers}
-use Rattle.world_build.proofs.type_finder.TypeFinder.file_named.Given as goal
-
-abbrev pub invariant-loop-file : goal.invariant-loop-file
-invariant-loop-file l = AreOthers l.self.names l.self.files.now l.self.texts l.assembly l.file
