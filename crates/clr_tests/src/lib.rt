@@ -36,6 +36,8 @@ mod similar_members;
 #[cfg(test)]
 mod world_definitions;
 #[cfg(test)]
+mod world_details;
+#[cfg(test)]
 mod world_members;
 #[cfg(test)]
 mod world_roots;

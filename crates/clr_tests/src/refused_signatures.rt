@@ -1,6 +1,7 @@
 //! Signatures that are refused at the token of their row (ECMA-335 II.23.2).
 use crate::built::images_of;
-use crate::checks::{assert_last, with_rows};
+use crate::checks::{assert_checked, assert_last, fault_in, with_rows};
+use crate::kit::Row;
 use clr_base::{FaultKind, ImageFault};
 use image_write::Draft;
 use std::alloc::{AllocError, Global};
@@ -58,6 +59,40 @@ fn signatures_of_each_kind(rt: HostRuntime) -> Result<(), Fail> {
         assert_last(&rt, rt.alloc(), rows, blobs, kind)?;
     }
     Ok(())
+}
+
+/// A signature of each kind at 1, 4, 8, 12 and 14, and at 18 local variables that are cut off.
+const BLOBS: &[u8] =
+    b"\0\x02\x06\x08\x03\x20\0\x01\x03\x07\x01\x08\x01\x08\x03\x0a\x01\x08\x01\x07";
+
+/// A row of each table that has signatures, in the order in which they are checked: as it may be, and with a bad one.
+const COLUMNS: [(u8, &[u32], &[u32]); 6] = [
+    (0x04, &[0, 25, 1], &[0, 25, 0]),
+    (0x06, &[0, 0, 0, 27, 4, 1], &[0, 0, 0, 27, 0, 1]),
+    (0x0a, &[8, 25, 1], &[8, 25, 0]),
+    (0x11, &[8], &[18]),
+    (0x1b, &[12], &[0]),
+    (0x2b, &[2, 14], &[2, 0]),
+];
+
+/// A file whose signatures are bad in a column and in all behind it.
+fn bad_from(alloc: Global, first: u8) -> Result<Draft, AllocError> {
+    let mut rows = Vec::new(alloc);
+    for (table, good, bad) in COLUMNS {
+        rows.push((table, if table < first { good } else { bad }))?;
+    }
+    let (draft, _) = with_rows(alloc, &rows, BLOBS)?;
+    Ok(draft)
+}
+
+#[test]
+fn columns_in_their_order(rt: HostRuntime) -> Result<(), Fail> {
+    let alloc = rt.alloc();
+    for (table, _, _) in COLUMNS {
+        let fault = fault_in(Row { table, row: 1 }, FaultKind::BadSignature);
+        assert_checked(&rt, alloc, &bad_from(alloc, table)?, Some(fault))?;
+    }
+    assert_checked(&rt, alloc, &bad_from(alloc, 0x2c)?, None)
 }
 
 /// Two files with a type specification each. The second one's is a value type whose index names no row.

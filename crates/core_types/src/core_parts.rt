@@ -35,8 +35,8 @@ fn member_name(name: MemberName) -> NameId
     NameId(DEF_COUNT as u32 + name.number())
 }
 
-/// The tree of a type without arguments.
-fn plain(alloc: Global, t: CoreType) -> Ty
+/// The tree of a type of the core without arguments. Takes no memory.
+pub fn plain(alloc: Global, t: CoreType) -> Ty
     ensures { result ≡ spec.plain t }
 {
     Ty::Inst(t.def(), Items::new(alloc))

@@ -1,6 +1,6 @@
 //! Names, each once, numbered in the order in which they are first seen.
 
-ghost use Rattle.std.specs.Prelude.{◌≡◌, ◌<◌, ◌↔◌, [], length, IfOk, IsTrue, OnOk, OnErr};
+ghost use Rattle.std.specs.Prelude.{◌≡◌, ◌<◌, [], length, IfOk, OnOk, OnErr};
 ghost use Rattle.std.specs.Str.{bytes_eq};
 ghost use Rattle.core_types.specs.Names.{number_in, with_one};
 
@@ -40,12 +40,6 @@ impl Names {
         ensures { result ≡ length self.now }
     {
         self.set.len()
-    }
-
-    pub fn is_empty(&self) -> bool
-        ensures { IsTrue result ↔ (self.now ≡ []) }
-    {
-        self.set.is_empty()
     }
 
     /// Makes room for so many more names.

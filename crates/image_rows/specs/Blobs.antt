@@ -18,7 +18,7 @@ value_or d (Err place) = d
 abbrev pub blob_by : Metadata → ℕ → List ℕ
 blob_by m index = unwrap_or (blob_at m.blobs index) []
 
--- a blob that begins with a code; a field's begins with 06
+-- whether a blob begins with a code; a field's begins with 06
 abbrev pub begins_with : ℕ → List ℕ → Bool
 begins_with code [] = false
 begins_with code (b ∷ bs) = b == code

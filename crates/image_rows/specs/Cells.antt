@@ -63,13 +63,14 @@ run_len m column table row = run_end m column table row - at m 0x02 row column
 unfoldable pub before_run : Metadata → ℕ → ℕ → ℕ → ℕ
 before_run m column table row = min (at m 0x02 row column - 1) (rows m table)
 
--- the TypeDef row in whose run a row stands, the first where there are several; 0 where there is none
+-- a row stands in a run
 abbrev pub in_run : ℕ → ℕ → ℕ → Bool
 in_run first end row = nat_le first row && nat_lt row end
 
 abbrev pub is_owner : Metadata → ℕ → ℕ → ℕ → ℕ → Bool
 is_owner m column table row def = in_run (at m 0x02 def column) (run_end m column table def) row
 
+-- the TypeDef row in whose run a row stands, the first where there are several; 0 where there is none
 unfoldable pub owner_of : Metadata → ℕ → ℕ → ℕ → ℕ
 owner_of m column table row = unwrap_or (find (is_owner m column table row) (rows_of m 0x02)) 0
 

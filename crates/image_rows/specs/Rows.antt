@@ -12,7 +12,7 @@ use Rattle.cli_tables.specs.Layout.{cell, row_count, one_if}
 use Rattle.cli_tables.specs.Metadata.{Metadata}
 use Rattle.cli_tables.specs.Schema.{columns, tables_of, tag_bits}
 
--- the token of a row (II.22): the table's number stands in the highest byte
+-- the token of a row (III.1.9): the table's number stands in the highest byte
 unfoldable pub token : ℕ → ℕ → ℕ
 token table row = 16777216 * table + row
 

@@ -25,7 +25,7 @@ pub fn row_counts(tables: &Tables<'_>) -> RowCounts
     }
 }
 
-/// What was read, and something else where the blob is no signature, which is not so in a file that passes its checks.
+/// What was read, or `otherwise` where the blob is no signature, which is not so in a file that passes its checks.
 pub fn value_or<T: Drop>(read: Result<T, SigFault>, otherwise: T) -> Result<T, Memory>
     ensures { (held : Result T ℕ) → Answers read held → IfOk result (λ x. x ≡ spec.value_or otherwise held) }
 {

@@ -1,10 +1,11 @@
-//! The rows of one file: the checks that they and their signatures pass, and what those that pass them say.
+//! One file: the checks of its rows and signatures behind those of its headers and tables, and what rows that pass them say.
 #![tactic(auto)]
 
 mod blobs;
 mod cells;
 mod definition_names;
 mod image;
+mod laws;
 mod member_runs;
 mod nesting;
 mod ref_names;
@@ -18,12 +19,12 @@ pub use blobs::{FIELD_CODE, LOCALS_CODE, begins_with, blob_by, row_counts, value
 pub use cells::{RowOf, blob, coded, text};
 pub use definition_names::full_names;
 pub use image::{read_image, read_tables};
+pub use laws::type_names_are_texts;
 pub use member_runs::{before_run, loose, owners, run_len};
 pub use nesting::enclosing_rows;
 pub use ref_names::{MOST_SCOPES, name_of_ref, scope};
 pub use refusal::Refusal;
 pub use rows::token;
-pub use signature_checks::{SIG_COLUMNS, SigColumn, SigKind, check_signatures};
 pub use table_numbers::{
     ASSEMBLY, ASSEMBLY_REF, CLASS_LAYOUT, FIELD, FIELD_LAYOUT, FIELD_LIST, GENERIC_PARAM,
     GENERIC_PARAM_CONSTRAINT, INTERFACE_IMPL, MEMBER_REF, METHOD_DEF, METHOD_IMPL, METHOD_LIST,

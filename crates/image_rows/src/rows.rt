@@ -1,5 +1,5 @@
 //! The checks of the tables' rows, in order (ECMA-335 II.22).
-ghost use Rattle.std.specs.Prelude.{◌≡◌, ◌≢◌, ◌+◌, ◌<◌, ◌≤◌, length, slice_index};
+ghost use Rattle.std.specs.Prelude.{◌≡◌, ◌≢◌, ◌+◌, ◌<◌, ◌≤◌, length};
 ghost use Rattle.clr_base.specs.Checks.{first_fault};
 ghost use Rattle.cli_tables.specs.declared.schema.Column.TheVariants as column_kind;
 ghost use Rattle.cli_tables.specs.Layout.{IsCell, row_count};
@@ -21,7 +21,7 @@ const CHECKED_TABLES: [u8; 17] = [
     0x2c,
 ];
 
-/// The token of a row (II.22): the table's number stands in the highest byte.
+/// The token of a row (III.1.9): the table's number stands in the highest byte.
 #[tactic(auto, unfolding(crate::specs::Rows::token))]
 pub fn token(table: u8, row: u32) -> u64
     ensures { result ≡ spec.token table row }

@@ -16,7 +16,7 @@ use Rattle.type_members.specs.RowIndexes.{rows_at}
 abbrev pub has_name : List NameId → NameId → ℕ → Bool
 has_name names name i = option_map_or (λ n. same_name n name) (slice_get names i) false
 
--- those of a run that have a name, in order; none where the run goes past the last one
+-- the members of a run that have a name, in order; numbers past the last member are none of them
 abbrev pub named : List NameId → ℕ → ℕ → NameId → List ℕ
 named names first count name = filter (has_name names name) (range_with_len first count)
 
@@ -42,12 +42,12 @@ pub record AreFew (w : MemberTable) : Type 0 where
   pub fields : length w.fields < 2 ^ 32
 
 -- how many members a run has at most that are looked at one by one
-abbrev pub few : ℕ
-few = 32
+abbrev pub most_one_by_one : ℕ
+most_one_by_one = 32
 
--- the groups of a run; none where it has few members
+-- the groups of a run, which only a run with few members may lack
 abbrev pub HasGroups : List NameId → ℕ → ℕ → Option MemberGroups → Type 0
-HasGroups names first count None = count ≤ few
+HasGroups names first count None = count ≤ most_one_by_one
 HasGroups names first count (Some g) = AreGroups names first count g
 
 -- each of some runs has its groups, in order, where its first member and its count are these

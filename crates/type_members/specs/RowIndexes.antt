@@ -11,7 +11,7 @@ use Rattle.image_rows.specs.Cells.{rows_with}
 abbrev pub rows_at : {S : Type 0} → IndexMap ℕ (List ℕ) S → ℕ → List ℕ
 rows_at groups value = unwrap_or (get nat_eq groups value) []
 
--- those at each number after a row was added
+-- the rows at the number v, once a row was added at the number `value`
 abbrev pub rows_with_one : {S : Type 0} → IndexMap ℕ (List ℕ) S → ℕ → ℕ → ℕ → List ℕ
 rows_with_one groups value row v = if value == v then rows_at groups v ++ row ∷ [] else rows_at groups v
 

@@ -21,7 +21,7 @@ use Rattle.core_types.specs.CoreTable.{core_names}
 use Rattle.image_rows.specs.Blobs.{row_counts, value_or}
 use Rattle.image_rows.specs.Cells.{rows, blob, coded}
 
--- the type of the core that a built-in code means (II.23.1.16); 0x1C is System.Object
+-- the type of the core that a built-in code means (II.23.1.16); 0x1C is System.Object, and no signature gives another code
 unfoldable pub built_in : ℕ → CoreType
 built_in code =
     if code == 0x01 then known.Void

@@ -1,5 +1,5 @@
 //! What stands in the rows that an index finds.
-ghost use Rattle.std.specs.Prelude.{◌≡◌, ℕ, ◌<◌, length, map, IfOk};
+ghost use Rattle.std.specs.Prelude.{◌≡◌, ◌<◌, length, map, IfOk};
 ghost use Rattle.std.specs.Option.{option_map};
 ghost use Rattle.cli_tables.specs.Schema.{columns};
 ghost use Rattle.image_rows.specs.Cells as spec;

@@ -16,11 +16,10 @@ mod signature_trees;
 
 pub use definitions::{CORE_METHOD_COUNT, def_of, run_of};
 pub use file_rows::FileRows;
-pub use member_groups::MemberGroups;
 pub use member_index::MemberIndex;
 pub use member_table::{MemberTable, Run};
 pub use member_tables::all_members;
 pub use members::no_method;
-pub use open_method::{Open, open_of, same_open};
+pub use open_method::{Open, open_of};
 pub use row_index::RowIndex;
 pub use signature_trees::{def_type, nothing, tree, trees, type_at_row};

@@ -1,9 +1,9 @@
 //! The members of one definition by their names.
-ghost use Rattle.std.specs.Prelude.{◌≡◌, ℕ, ◌<◌, ◌^◌, length, IfOk, OnOk};
+ghost use Rattle.std.specs.Prelude.{◌≡◌, ◌<◌, ◌^◌, length, IfOk};
 ghost use Rattle.type_members.specs.MemberIndexes as spec;
 ghost use Rattle.type_members.specs.MemberIndexes.{AreGroups};
-ghost use Rattle.type_members.specs.RowIndexes.{rows_at, rows_with_one};
 
+use crate::row_index::add;
 use clr_base::{Memory, NameId};
 use indexmap::IndexMap;
 use sqlite_items::Items;
@@ -13,25 +13,6 @@ use std::alloc::Global;
 #[derive(Debug, Drop)]
 pub struct MemberGroups {
     by_name: IndexMap<u32, Items<u32>>,
-}
-
-/// Adds a member behind those that have its name.
-fn add(
-    alloc: Global,
-    by_name: &mut IndexMap<u32, Items<u32>>,
-    name: u32,
-    member: u32,
-) -> Result<(), Memory>
-    ensures { OnOk result ((n : ℕ) → rows_at by_name.new n ≡ rows_with_one by_name.old name member n) }
-{
-    if let Some(members) = by_name.get_mut(&name) {
-        members.push(member)?;
-        return Ok(());
-    }
-    let mut members = Items::new(alloc);
-    members.push(member)?;
-    by_name.insert(name, members)?;
-    Ok(())
 }
 
 impl MemberGroups {

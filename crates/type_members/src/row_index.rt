@@ -1,7 +1,6 @@
 //! The rows of a table by the number in one of their columns.
 ghost use Rattle.std.specs.Prelude.{◌≡◌, ℕ, ◌<◌, length, IfOk, OnOk};
 ghost use Rattle.cli_tables.specs.Schema.{columns};
-ghost use Rattle.image_rows.specs.Cells as spec;
 ghost use Rattle.type_members.specs.RowIndexes.{Indexes, first_of_group, group, rows_at, rows_with_one};
 
 use cli_tables::Tables;
@@ -17,7 +16,7 @@ pub struct RowIndex {
 }
 
 /// Adds a row behind those that have its number.
-fn add(
+pub(crate) fn add(
     alloc: Global,
     groups: &mut IndexMap<u32, Items<u32>>,
     value: u32,

@@ -22,7 +22,7 @@ use Rattle.image_rows.specs.TypeNames.{full_name, name_of_ref}
 abbrev pub id_in : List (List ℕ) → List ℕ → NameId
 id_in names t = record { 0 = number_in names t }
 
--- something is what comes of names, and of all names that more texts make of them
+-- x is what `of` gives of these names, and of each list that texts added behind make of them
 pub record IsSettled {A : Type 0} (names : List (List ℕ)) (of : List (List ℕ) → A) (x : A) : Type 0 where
   pub is : (more : List (List ℕ)) → x ≡ of (with_all bytes_eq names more)
 

@@ -45,7 +45,7 @@ has_name name m = nat_lt 0 (rows m 0x20) && bytes_eq (text m 0x20 1 7) name
 unfoldable pub file_named : List Metadata → List ℕ → Option ℕ
 file_named files name = position (has_name name) files
 
--- the first row of a definition with a namespace and a name that stands in the one in a row, or in none, which is 0
+-- the first TypeDef row with a namespace and a name whose definition stands in that of the row `around`, in none where that is 0
 abbrev pub is_def : Metadata → ℕ → List ℕ → List ℕ → ℕ → Bool
 is_def m around namespace name row =
     enclosing_row m row == around && bytes_eq (def_namespace m row) namespace && bytes_eq (def_name m row) name
@@ -82,7 +82,7 @@ in_assembly files assembly namespace name =
 abbrev pub assembly_text : Metadata → ℕ → List ℕ
 assembly_text m row = if nat_le row (rows m 0x23) then text m 0x23 row 6 else []
 
--- What a scope leads to for a namespace and a name. Of a reference that is a scope it is told what that names.
+-- What a scope leads to for a namespace and a name; place_of tells what a TypeRef row names.
 abbrev pub in_scope : List Metadata → ℕ → Metadata → (ℕ → Option DefPlace) → List ℕ → List ℕ → Option RowOf → Option DefPlace
 in_scope files k m place_of namespace name None = None
 in_scope files k m place_of namespace name (Some s) =

@@ -7,7 +7,7 @@ use Rattle.clr_base.specs.declared.ids.NameId.{NameId}
 use Rattle.type_names.specs.declared.type_texts.NameColumns.{NameColumns}
 use Rattle.type_names.specs.declared.type_keys.FirstPlaces.{FirstPlaces}
 
--- two names are the same
+-- two keys are the same
 abbrev pub same_key : TypeKey → TypeKey → Bool
 same_key a b = a.around == b.around && (a.namespace == b.namespace && a.name == b.name)
 
@@ -26,30 +26,30 @@ keys_of around columns count = map (key_of around columns) (range_with_len 0 cou
 
 -- ---- first places
 
--- the name at a place
+-- the key at a place
 abbrev pub key_at : List TypeKey → ℕ → TypeKey
 key_at keys i = get_or keys i (record { around = 0; namespace = 0; name = 0 })
 
--- the first of some places at which a name stands
+-- the first of some places at which a key stands
 abbrev pub first_of : List TypeKey → TypeKey → ℕ → Option ℕ
 first_of keys key n = find (λ i. same_key key (key_at keys i)) (range_with_len 0 n)
 
--- the place that is noted of a name
+-- the place that is noted of a key
 abbrev pub place_in : {S : Type 0} → IndexMap TypeKey ℕ S → TypeKey → Option ℕ
 place_in places key = get same_key places key
 
--- that of each name, once a place of one was noted where none was
+-- the place that is noted of the key k, once `place` was noted of `key` where it had none
 abbrev pub place_with : {S : Type 0} → IndexMap TypeKey ℕ S → TypeKey → ℕ → TypeKey → Option ℕ
 place_with places key place k =
     if is_some (place_in places key) then place_in places k
     else if same_key key k then Some place
     else place_in places k
 
--- where an index finds a name
+-- where an index finds a key
 abbrev pub first_at : FirstPlaces → TypeKey → Option ℕ
 first_at index key = place_in index.places key
 
--- it is the first place of the name in a list
+-- it is the first place of the key in a list
 pub record Finds (keys : List TypeKey) (index : FirstPlaces) : Type 0 where
   pub few : length keys < 4294967295
   pub each : (key : TypeKey) → first_at index key ≡ first_of keys key (length keys)

@@ -1,8 +1,7 @@
 //! Types of the core library and of files, found by their names.
-ghost use Rattle.std.specs.Prelude.{◌≡◌, ◌≤◌, ℕ, List};
+ghost use Rattle.std.specs.Prelude.{◌≡◌, ℕ, List};
 ghost use Rattle.std.specs.Option.{option_map};
 ghost use Rattle.type_names.specs.declared.resolution.DefPlace.TheVariants.{InCore};
-ghost use Rattle.type_names.specs.Numbering.{id_in};
 ghost use Rattle.type_names.specs.Resolution as resolution;
 ghost use Rattle.type_names.specs.TypeFinders as spec;
 

@@ -1,6 +1,5 @@
 //! The numbers of the texts by which types are found: namespaces, names, and the names of assemblies.
-ghost use Rattle.std.specs.Prelude.{◌≡◌, ◌+◌, ◌<◌, ◌≤◌, length, map, IfOk, OnOk};
-ghost use Rattle.std.specs.List.{range_with_len};
+ghost use Rattle.std.specs.Prelude.{◌+◌, ◌<◌, ◌≤◌, length, IfOk, OnOk};
 ghost use Rattle.cli_tables.specs.Schema.{columns};
 ghost use Rattle.type_names.specs.Numbering.{column_texts};
 ghost use Rattle.type_names.specs.TypeTexts as spec;

@@ -47,13 +47,15 @@ too_many = most + 1
 abbrev pub capped : ℕ → ℕ
 capped n = min n too_many
 
--- how many local variables the blob at an index lists
+-- the local variables that the blob at an index lists, none where it doesn't begin with 07
 unfoldable pub locals_by : Metadata → ℕ → Option (List SigTy)
 locals_by m index =
     if begins_with 0x07 (blob_by m index) then Some (value_or [] (placed (blob_by m index) (locals_at (row_counts m) (blob_by m index)))) else None
 
+-- how many they are, up to one too many
 unfoldable pub local_count : Metadata → ℕ → ℕ
 local_count m index = capped (length (listed (locals_by m index)))
 
+-- how many all rows of StandAloneSig list, up to one too many
 unfoldable pub all_locals : Metadata → ℕ
 all_locals m = capped (locals_before m (rows m 0x11))

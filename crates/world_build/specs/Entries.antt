@@ -1,4 +1,4 @@
--- Entries: the methods that a program may begin with.
+-- Entries: the methods that a program may begin with (ECMA-335 II.15.4.1.2).
 use Rattle.std.specs.Prelude.{◌≡◌, ℕ, ◌<◌, ◌≤◌, Bool, true, false, not, ◌&&◌, ◌||◌, ◌==◌, bit_and, List, [], ◌∷◌, ◌++◌, codes, length, Option, None, Some, slice_get}
 use Rattle.std.specs.List.{find, range_with_len}
 use Rattle.std.specs.Option.{option_map}

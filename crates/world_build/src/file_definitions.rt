@@ -5,7 +5,6 @@ ghost use Rattle.type_members.specs.Definitions as spec;
 ghost use Rattle.world_build.specs.MemberRefs.{members_of_refs as all_refs};
 ghost use Rattle.type_members.specs.MemberTable.{run_at};
 ghost use Rattle.world_build.specs.References as references;
-ghost use Rattle.type_members.specs.RowIndexes.{AreFileRows};
 ghost use Rattle.type_members.specs.Trees.{AreNumbered};
 
 use crate::method_impls::impls_of;
@@ -19,8 +18,8 @@ use type_names::FileNames;
 use type_tree::{Def, Member};
 
 /// Appends the definitions of the file with a number, from 1, where files before it have so many fields and methods, given the
-/// members of its MemberRef rows. Takes
-/// memory and time in the rows that tell of definitions and in the signatures that these name.
+/// members of its MemberRef rows. Takes memory and time in the rows that tell of definitions and in the signatures that these
+/// name.
 pub fn push_definitions(
     alloc: Global,
     reader: &Reader<'_, '_>,

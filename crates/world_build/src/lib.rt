@@ -1,4 +1,5 @@
-//! The world builder: the core library and files become definitions, members, signatures and roots.
+//! Files become a world: the checks of files one after another, what references to members name, signatures, tokens, roots,
+//! and the whole.
 #![tactic(auto)]
 
 mod bodies;
@@ -23,11 +24,8 @@ mod row_signatures;
 mod world_laws;
 mod worlds;
 
-pub use bodies::file_bodies;
 pub use building::{BuildFault, build};
-pub use counts::Totals;
 pub use images::{ImagesFault, read_images};
-pub use reader::Reader;
 pub use root_laws::{no_world_of_an_unnamed_word, one_root_of_a_word, one_world_of_roots};
 pub use roots::{NamedRoot, RootForm, RootsFault, with_roots};
-pub use world_laws::{definitions_called_by_their_rows, type_names_are_texts};
+pub use world_laws::definitions_called_by_their_rows;

@@ -23,7 +23,8 @@ pub const NAME: u8 = 1;
 
 pub const SIGNATURE: u8 = 2;
 
-/// The type that owns a member, by the row that is its parent: none owns one of a method or of a module.
+/// The type that owns a member, by the row that is its parent: the missing type without a name where that is a method or a
+/// module.
 fn parent_type(alloc: Global, reader: &Reader<'_, '_>, parent: Option<RowOf>) -> Result<Ty, Memory>
     ensures { IfOk result (λ t. t ≡ spec.parent_type reader.now parent) }
 {

@@ -1,5 +1,5 @@
 //! The roots of a world: what the words name that a program is asked for.
-ghost use Rattle.std.specs.Prelude.{◌≡◌, ◌+◌, ◌≤◌, length, map, string_bytes, ◌++◌, ◌∷◌, [], IfOk, IfErr, OnOk, List, ℕ};
+ghost use Rattle.std.specs.Prelude.{◌≡◌, ◌+◌, ◌≤◌, length, map, string_bytes, ◌++◌, ◌∷◌, [], IfOk, IfErr, OnOk};
 ghost use Rattle.std.specs.Option.{IfSome, IfNone};
 ghost use Rattle.world_build.specs.declared.roots.NamedRoot.{NamedRoot};
 ghost use Rattle.world_build.specs.declared.roots.RootsFault.TheVariants as fault;

@@ -1,17 +1,13 @@
 //! Laws of worlds. Each is a function that does nothing and whose clause is the law.
-ghost use Rattle.std.specs.Prelude.{◌≡◌, ◌⊎◌, ◌+◌, ◌≤◌, ℕ, List, Some, map, slice_get};
-ghost use Rattle.cli_tables.specs.Heaps.{text_at};
-ghost use Rattle.cli_tables.specs.Layout.{cell, row_count};
+ghost use Rattle.std.specs.Prelude.{◌≡◌, ◌+◌, ℕ, List, Some, map, slice_get};
 ghost use Rattle.cli_tables.specs.Metadata.{Metadata};
-ghost use Rattle.image_rows.specs.Cells.{rows_of, text};
+ghost use Rattle.image_rows.specs.Cells.{rows_of};
 ghost use Rattle.world_build.specs.DefNames.{names_in};
 ghost use Rattle.world_build.specs.Roots.{HasRoots};
-ghost use Rattle.image_rows.specs.Rows.{ArePassed};
 ghost use Rattle.image_rows.specs.TypeNames.{full_name};
 ghost use Rattle.world_build.specs.World.{tables_in, world};
 
 use crate::roots::RootForm;
-use cli_tables::Tables;
 use type_tree::World;
 
 /// The definitions of a file are called, in order, by the full names of its TypeDef rows (ECMA-335 II.22.37).
@@ -19,11 +15,4 @@ pub fn definitions_called_by_their_rows(_world: &World, _form: RootForm)
     ensures { (files words : List (List ℕ)) → HasRoots (world files) _form words _world.now →
         (k : ℕ) (m : Metadata) → slice_get (tables_in files) k ≡ Some m →
         names_in _world.now (k + 1) ≡ map (full_name m) (rows_of m 2) }
-{}
-
-/// In a file that passes the checks of its rows, the name and the namespace of a definition are the texts at the indexes in
-/// its TypeDef row.
-pub fn type_names_are_texts(_tables: &Tables<'_>)
-    ensures { ArePassed _tables.now → (row column : ℕ) → 1 ≤ row → row ≤ row_count _tables.now.tables 2 → (column ≡ 1) ⊎ (column ≡ 2) →
-        text_at _tables.now.strings (cell _tables.now.tables 2 row column) ≡ Some (text _tables.now 2 row column) }
 {}

@@ -1,8 +1,7 @@
 //! The world of files that pass their checks, before its roots.
-ghost use Rattle.std.specs.Prelude.{◌≡◌, ◌≤◌, [], All, true, length, IfOk};
+ghost use Rattle.std.specs.Prelude.{◌≡◌, ◌≤◌, [], true, length, IfOk};
 ghost use Rattle.std.proofs.Math.ListN.{replicate};
 ghost use Rattle.world_build.specs.Counts.{are_few, totals_of};
-ghost use Rattle.core_types.specs.CoreLibrary as library;
 ghost use Rattle.world_build.specs.Images.{bytes_of_each};
 ghost use Rattle.world_build.specs.Signatures as signatures;
 ghost use Rattle.world_build.specs.World as spec;
@@ -11,20 +10,13 @@ use crate::counts::row_sigs;
 use crate::file_worlds::{Growing, push_files};
 use cli_tables::Tables;
 use clr_base::Memory;
-use core_types::{CoreType, core_library};
+use core_types::{CoreType, core_library, plain};
 use image_rows::STAND_ALONE_SIG;
 use sqlite_items::{Boxed, Items};
 use std::alloc::Global;
 use type_members::{MemberIndex, all_members};
 use type_names::{name_files, resolve_files};
 use type_tree::{BodyPlace, Def, Key, KeyList, Ty, WorldParts, with_room};
-
-/// The tree of a type of the core without arguments.
-fn plain(alloc: Global, t: CoreType) -> Ty
-    ensures { result ≡ library.plain t }
-{
-    Ty::Inst(t.def(), Items::new(alloc))
-}
 
 /// System.String, System.Type, System.String[].
 #[tactic(auto, unfolding(crate::specs::Signatures::well_known))]
@@ -51,8 +43,8 @@ fn expected_sigs(files: &[Tables<'_>]) -> usize {
     count
 }
 
-/// What stands before the parts of files: the definitions of the core, whose so many methods have no bodies, and the
-/// signatures that every world has, with room for those of files.
+/// The core's part of what grows: its definitions, no body for each of its `methods` methods, and the signatures that every
+/// world has, with room for those of files.
 fn of_core(
     alloc: Global,
     defs: Items<Def>,
