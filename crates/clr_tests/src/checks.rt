@@ -1,12 +1,11 @@
 //! Files with some rows, and what the checks of files say of them.
-use crate::built::image_of;
-use crate::kit::{Assembly, NOTHING, Row, types};
 use clr_base::{Bytes, FaultKind, ImageFault};
 use image_rows::{Refusal, read_image};
-use image_write::{CellList, Draft};
+use image_write::Draft;
 use std::alloc::{AllocError, Global};
 use std::process::Abort;
 use std::test::Fail;
+use test_kit::{Assembly, NOTHING, Row, image_of, types};
 
 /// The heap of texts: `m.dll` at 1, `mscorlib` at 7, `<Module>` at 16, `A` at 25, `B` at 27. The text at 29 isn't UTF-8,
 /// and the one at 31, where the heap ends, has no zero behind it.
@@ -31,13 +30,6 @@ pub fn with_rows(
     Ok((draft, last))
 }
 
-/// Puts cells, row after row, in the place of those of a table.
-pub fn set_table(draft: &mut Draft, table: u8, cells: CellList) {
-    if usize::from(table) < draft.tables.len() {
-        draft.tables.set(usize::from(table), cells);
-    }
-}
-
 /// A fault in a row. The place is the row's token (ECMA-335 III.1.9).
 pub fn fault_in(row: Row, kind: FaultKind) -> ImageFault {
     let first = u64::from(row.table) * 0x100_0000;
@@ -54,7 +46,7 @@ pub fn assert_checked(
     draft: &Draft,
     fault: Option<ImageFault>,
 ) -> Result<(), Fail> {
-    let image = image_of(rt, alloc, draft)?;
+    let image = image_of(alloc, draft)?;
     let refusal = fault.map(|fault| Refusal::Fault(fault));
     assert_eq!(rt; read_image(alloc, &image).err(), refusal);
     Ok(())

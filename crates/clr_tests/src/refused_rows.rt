@@ -1,11 +1,11 @@
 //! Rows that are refused, and rows beside them that aren't (ECMA-335 II.22).
-use crate::checks::{assert_checked, assert_last, fault_in, set_table, with_rows};
-use crate::kit::Row;
+use crate::checks::{assert_checked, assert_last, fault_in, with_rows};
 use clr_base::FaultKind;
 use image_write::Draft;
 use sqlite_items::Items;
 use std::alloc::{AllocError, Global};
 use std::test::Fail;
+use test_kit::{Row, set_table};
 
 /// The heap of blobs: the one at 1 is longer than the heap.
 const BLOBS: &[u8] = b"\0\x7f\0\0";

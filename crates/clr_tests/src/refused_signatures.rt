@@ -1,11 +1,10 @@
 //! Signatures that are refused at the token of their row (ECMA-335 II.23.2).
-use crate::built::images_of;
 use crate::checks::{assert_checked, assert_last, fault_in, with_rows};
-use crate::kit::Row;
 use clr_base::{FaultKind, ImageFault};
 use image_write::Draft;
 use std::alloc::{AllocError, Global};
 use std::test::Fail;
+use test_kit::{Row, images_of};
 use world_build::{ImagesFault, read_images};
 
 const BAD: Option<FaultKind> = Some(FaultKind::BadSignature);
@@ -108,7 +107,7 @@ fn files(alloc: Global) -> Result<Vec<Draft>, AllocError> {
 #[test]
 fn files_one_after_another(rt: HostRuntime) -> Result<(), Fail> {
     let drafts = files(rt.alloc())?;
-    let files = images_of(&rt, rt.alloc(), &drafts)?;
+    let files = images_of(rt.alloc(), &drafts)?;
     assert!(rt; files.len() == 2);
     let fault = ImageFault {
         kind: FaultKind::BadSignature,

@@ -1,15 +1,16 @@
 //! Drafts that are written, and what is read of their images.
 ghost use Rattle.std.specs.Prelude.{◌≡◌, true};
 
-use crate::built::image_of;
-use crate::kit::{Assembly, NOTHING, Row, methods, types};
 use crate::run::{NOTHING_FAILS, Ran, run};
-use crate::signatures::{BOOLEAN, HAS_THIS, INT32, class, field, instance, method, var};
 use cli_tables::{Tables, columns_of};
 use clr_core::Status;
 use std::alloc::{AllocError, Global};
 use std::test::Fail;
 use std::thread::Threads;
+use test_kit::{
+    Assembly, HAS_THIS, INT32, NOTHING, Row, equatable, field, image_of, method, methods, types,
+    var,
+};
 
 /// A cell of a table, where it has one there. Rows count from 1.
 fn cell(tables: &Tables<'_>, row: Row, column: u8) -> Option<u32> {
@@ -37,7 +38,7 @@ fn fields_up_to_wide_lists(rt: HostRuntime) -> Result<(), Fail> {
         }
         let mut draft = kit.draft()?;
         draft.plus = plus;
-        let image = image_of(&rt, rt.alloc(), &draft)?;
+        let image = image_of(rt.alloc(), &draft)?;
         let ran = run(&rt, rt.alloc(), &["names", "m.dll"], &image, NOTHING_FAILS)?;
         assert_eq!(rt; ran.status, Status::Done);
         assert_eq!(rt; ran.out.as_slice(), b"m.dll\n  <Module>\n".as_slice());
@@ -45,25 +46,10 @@ fn fields_up_to_wide_lists(rt: HostRuntime) -> Result<(), Fail> {
     Ok(())
 }
 
-/// `class C : IEquatable<C> { public virtual final newslot bool Equals(C) { return false; } }`
-pub fn equatable(alloc: Global) -> Result<Assembly, AllocError> {
-    let mut kit = Assembly::new(alloc, "m.dll")?;
-    let object = kit.type_ref("System", "Object")?;
-    let equatable = kit.type_ref("System", "IEquatable`1")?;
-    let c = kit.define(types::CLASS, "", "C", object)?;
-    let of_c = class(alloc, c)?;
-    let interface = kit.type_spec(&instance(alloc, equatable, &[&of_c])?)?;
-    kit.implement(c, interface)?;
-    let flags = methods::PUBLIC | methods::VIRTUAL | methods::FINAL | methods::NEW_SLOT;
-    let signature = method(alloc, HAS_THIS, BOOLEAN, &[&of_c])?;
-    kit.method(flags, "Equals", &signature, Some(&[0x16, 0x2a]))?;
-    Ok(kit)
-}
-
 #[test]
 fn a_class_that_implements(rt: HostRuntime) -> Result<(), Fail> {
     let draft = equatable(rt.alloc())?.draft()?;
-    let image = image_of(&rt, rt.alloc(), &draft)?;
+    let image = image_of(rt.alloc(), &draft)?;
     let ran = run(&rt, rt.alloc(), &["names", "m.dll"], &image, NOTHING_FAILS)?;
     assert_eq!(rt; ran.out.as_slice(), b"m.dll\n  <Module>\n  C\n".as_slice());
     assert!(rt; image.len() >= 584);
@@ -103,7 +89,7 @@ fn nested_and_generic(alloc: Global) -> Result<Assembly, AllocError> {
 #[test]
 fn nested_and_generic_types(rt: HostRuntime) -> Result<(), Fail> {
     let draft = nested_and_generic(rt.alloc())?.draft()?;
-    let image = image_of(&rt, rt.alloc(), &draft)?;
+    let image = image_of(rt.alloc(), &draft)?;
     let ran = run(&rt, rt.alloc(), &["names", "m.dll"], &image, NOTHING_FAILS)?;
     assert_eq!(rt;
         ran.out.as_slice(),
@@ -149,7 +135,7 @@ fn full_names(rt: HostRuntime) -> Result<(), Fail> {
         (&[(4, 2), (3, 2)], b"  Ns.A\n  Ns.A+B\n  Ns.A+C\n"),
     ] {
         let draft = nested(rt.alloc(), rows)?.draft()?;
-        let image = image_of(&rt, rt.alloc(), &draft)?;
+        let image = image_of(rt.alloc(), &draft)?;
         let ran = run(&rt, rt.alloc(), &["names", "m.dll"], &image, NOTHING_FAILS)?;
         assert_eq!(rt; ran.status, Status::Done);
         assert_eq!(rt;

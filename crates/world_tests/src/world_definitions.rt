@@ -1,11 +1,11 @@
 //! Rows that tell of definitions and fields, in the worlds of files.
 use crate::built::world_of;
-use crate::kit::{Assembly, NOTHING, types};
 use clr_base::{DefId, FieldId};
 use image_write::Draft;
 use std::alloc::{AllocError, Global};
 use std::process::Abort;
 use std::test::Fail;
+use test_kit::{Assembly, NOTHING, types};
 use type_tree::{Def, World, type_text};
 use world_build::RootForm;
 

@@ -1,13 +1,12 @@
 //! Which definition owns which members (ECMA-335 II.22.37), in the worlds of files.
 use crate::built::{token_of, world_of};
-use crate::checks::set_table;
-use crate::kit::{Assembly, Row, methods};
 use clr_base::{DefId, FieldId, MethId};
 use image_write::Draft;
 use sqlite_items::Items;
 use std::alloc::{AllocError, Global};
 use std::process::Abort;
 use std::test::Fail;
+use test_kit::{Assembly, Row, methods, set_table};
 use type_tree::{Member, World};
 use world_build::RootForm;
 

@@ -1,12 +1,11 @@
 //! Roots, members and signatures in the worlds of files.
 use crate::built::{assert_root, built, token_of, tree_of, world_of};
-use crate::kit::{Assembly, Row, methods, types};
-use crate::written::equatable;
 use clr_base::{FieldId, MethId, SigId};
 use image_write::Draft;
 use std::alloc::{AllocError, Global};
 use std::process::Abort;
 use std::test::Fail;
+use test_kit::{Assembly, Row, equatable, methods, types};
 use type_tree::{Member, World, type_text};
 use world_build::{BuildFault, RootForm};
 

@@ -1,12 +1,12 @@
 //! What rows say of generic parameters, generic methods, bodies and local variables, in the world of a file.
 use crate::built::{token_of, tree_of, world_of};
-use crate::kit::{Assembly, NOTHING, Row, methods, types};
 use cli_tables::CodedIndex;
 use clr_base::{Bytes, DefId, MethId, SigId};
 use image_write::Draft;
 use std::alloc::{AllocError, Global};
 use std::process::Abort;
 use std::test::Fail;
+use test_kit::{Assembly, NOTHING, Row, methods, types};
 use type_tree::{Def, Formal, Key, Member, TyList, World, type_text};
 use world_build::RootForm;
 

@@ -1,11 +1,10 @@
 //! Files whose signatures are as many as tokens number, and more (ECMA-335 III.1.9).
-use crate::built::images_of;
-use crate::kit::Assembly;
 use clr_base::{FaultKind, ImageFault};
 use image_write::Draft;
 use std::alloc::{AllocError, Global};
 use std::process::Abort;
 use std::test::Fail;
+use test_kit::{Assembly, images_of};
 use world_build::{ImagesFault, read_images};
 
 /// The signature of so many local variables, each an int32 (II.23.2.6).
@@ -46,7 +45,7 @@ fn assert_crowded(
     crowded: Option<u32>,
 ) -> Result<(), Fail> {
     let drafts = files(alloc, more)?;
-    let files = images_of(rt, alloc, &drafts)?;
+    let files = images_of(alloc, &drafts)?;
     assert!(rt; count <= files.len() && files.len() < 100);
     let fault = ImageFault {
         kind: FaultKind::TooMany,

@@ -1,11 +1,11 @@
 //! What references to types mean in the worlds of files.
 use crate::built::{file_of, token_of, tree_of, world_of};
-use crate::kit::{Assembly, NOTHING, Row, types};
 use cli_tables::CodedIndex;
 use image_write::Draft;
 use std::alloc::{AllocError, Global};
 use std::process::Abort;
 use std::test::Fail;
+use test_kit::{Assembly, NOTHING, Row, types};
 use type_tree::{Ty, World, type_text};
 use world_build::RootForm;
 

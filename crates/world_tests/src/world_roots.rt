@@ -1,11 +1,11 @@
 //! What root words name, in the world of a file.
 use crate::built::{assert_root, built, owned, tree_of, world_of};
-use crate::kit::{Assembly, methods, types};
 use clr_base::{MethId, SigId};
 use image_write::Draft;
 use std::alloc::{AllocError, Global};
 use std::process::Abort;
 use std::test::Fail;
+use test_kit::{Assembly, methods, types};
 use type_tree::{World, type_text};
 use world_build::{BuildFault, RootForm, with_roots};
 

@@ -1,5 +1,5 @@
 //! Signatures for tests (ECMA-335 II.23.2), as bytes.
-use crate::kit::Row;
+use crate::assembly::Row;
 use cli_tables::CodedIndex;
 use std::alloc::{AllocError, Global};
 

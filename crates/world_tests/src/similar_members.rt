@@ -1,10 +1,10 @@
 //! References to members that differ from others in one thing alone (ECMA-335 II.22.25).
 use crate::built::{token_of, world_of};
-use crate::kit::{Assembly, Row, methods, types};
 use clr_base::{FieldId, MethId};
 use image_write::Draft;
 use std::alloc::{AllocError, Global};
 use std::test::Fail;
+use test_kit::{Assembly, Row, methods, types};
 use type_tree::Member;
 use world_build::RootForm;
 

@@ -1,27 +1,12 @@
 //! Worlds that are built of drafts, and what stands in them.
-use crate::kit::Row;
 use clr_base::{MethId, SigId};
-use image_write::{Draft, write_image};
+use image_write::Draft;
 use std::alloc::{AllocError, Global};
 use std::process::Abort;
 use std::test::Fail;
+use test_kit::{Row, images_of};
 use type_tree::{Key, Root, Token, Ty, World};
 use world_build::{BuildFault, RootForm, build};
-
-/// The image of a draft, which must fit.
-pub fn image_of(rt: &impl Abort, alloc: Global, draft: &Draft) -> Result<Vec<u8>, Fail> {
-    assert!(rt; draft.fits());
-    Ok(write_image(alloc, draft)?)
-}
-
-/// The images of drafts, which must fit.
-pub fn images_of(rt: &impl Abort, alloc: Global, drafts: &[Draft]) -> Result<Vec<Vec<u8>>, Fail> {
-    let mut images = Vec::new(alloc);
-    for draft in drafts {
-        images.push(image_of(rt, alloc, draft)?)?;
-    }
-    Ok(images)
-}
 
 /// Words of one's own.
 pub fn owned(alloc: Global, words: &[&str]) -> Result<Vec<String>, AllocError> {
@@ -40,7 +25,7 @@ pub fn built(
     form: RootForm,
     words: &[&str],
 ) -> Result<Result<World, BuildFault>, Fail> {
-    let files = images_of(rt, alloc, drafts)?;
+    let files = images_of(alloc, drafts)?;
     let roots = owned(alloc, words)?;
     assert!(rt; files.len() <= 16 && roots.len() <= 256);
     Ok(build(alloc, files.as_slice(), form, roots.as_slice()))
