@@ -22,22 +22,22 @@ use Rattle.core_types.specs.declared.core_table.Params.{Params}
 use Rattle.core_types.specs.declared.core_table.Params.TheVariants.{Zero, One, Two, Three}
 use Rattle.core_types.specs.declared.core_table.SigType.{SigType}
 use Rattle.core_types.specs.declared.core_table.SigType.TheVariants.{Core, Parameter}
-use Rattle.core_types.specs.CoreTable.{def_id, def_text, member_text, row, method_rows}
-use Rattle.core_types.specs.Names.{first_seen, number_in}
+use Rattle.core_types.specs.CoreTable.{core_defs, def_id, def_text, member_text, row, method_rows}
+use Rattle.core_types.specs.Names.{first_seen, id_in}
 
 -- ---- names
 
 -- the name of each definition, then that of each method
 abbrev pub texts_in_order : List (List ℕ)
 texts_in_order =
-    map def_text (range_with_len 0 36)
-    ++ flat_map (λ k. map (λ m. member_text m.name) (method_rows k)) (range_with_len 0 36)
+    map def_text (range_with_len 0 core_defs)
+    ++ flat_map (λ k. map (λ m. member_text m.name) (method_rows k)) (range_with_len 0 core_defs)
 
 unfoldable pub names : List (List ℕ)
 names = first_seen texts_in_order
 
 unfoldable pub name_id : List ℕ → NameId
-name_id text = record { 0 = number_in names text }
+name_id text = id_in names text
 
 -- ---- trees
 
@@ -151,10 +151,10 @@ methods_of k = map (method_of k) (method_rows k)
 -- ---- the whole
 
 unfoldable pub defs : List Def
-defs = map def_of (range_with_len 0 36)
+defs = map def_of (range_with_len 0 core_defs)
 
 unfoldable pub methods : List Method
-methods = flat_map methods_of (range_with_len 0 36)
+methods = flat_map methods_of (range_with_len 0 core_defs)
 
 unfoldable pub core_library : CoreParts
 core_library = record { names = names; defs = defs; methods = methods; fields = [] }

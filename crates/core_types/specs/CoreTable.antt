@@ -94,7 +94,7 @@ def_text k = text k
 
 -- the name of a method
 unfoldable pub member_text : MemberName → List ℕ
-member_text n = text (36 + member_number n)
+member_text n = text (core_defs + member_number n)
 
 -- the row of the definition with a number
 unfoldable pub row : ℕ → CoreDef

@@ -2,6 +2,7 @@
 use Rattle.std.specs.Prelude.{ℕ, Bool, List, [], ◌∷◌, ◌++◌, if◌then◌else◌}
 use Rattle.std.specs.List.{list_any, position_or_len}
 use Rattle.std.specs.Str.{bytes_eq}
+use Rattle.clr_base.specs.declared.ids.NameId.{NameId}
 
 -- a list with one more item, where none is the same
 abbrev pub with_one : {A : Type 0} → (A → A → Bool) → List A → A → List A
@@ -19,3 +20,6 @@ first_seen texts = with_all bytes_eq [] texts
 -- the number of a text among names, how many these are where it isn't one of them
 abbrev pub number_in : List (List ℕ) → List ℕ → ℕ
 number_in names text = position_or_len (bytes_eq text) names
+
+abbrev pub id_in : List (List ℕ) → List ℕ → NameId
+id_in names text = record { 0 = number_in names text }

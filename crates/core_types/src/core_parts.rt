@@ -4,9 +4,9 @@ ghost use Rattle.std.specs.Prelude.{◌≡◌, [], ◌∷◌, ◌++◌, ◌<◌,
 ghost use Rattle.core_types.specs.CoreLibrary as spec;
 ghost use Rattle.core_types.specs.CoreTable as table;
 
+use crate::core_rows::{core_name, def_row, method_count, method_rows};
 use crate::core_table::{
-    CoreMethod, DEF_COUNT, FormalKind, MemberName, NAME_COUNT, Params, SigType, core_name, def_row,
-    method_count, method_rows,
+    CoreMethod, DEF_COUNT, FormalKind, MemberName, NAME_COUNT, Params, SigType,
 };
 use crate::core_type::CoreType;
 use crate::names::Names;
@@ -99,7 +99,7 @@ fn method_of(alloc: Global, number: u32, row: &CoreMethod) -> Result<Method, Mem
 
 /// Appends the methods of the definition with a number.
 fn push_methods(alloc: Global, methods: &mut Items<Method>, number: usize) -> Result<(), Memory>
-    requires { number < 36 }
+    requires { number < table.core_defs }
     ensures { OnOk result (methods.new ≡ methods.old ++ spec.methods_of number) }
 {
     let rows = method_rows(number);
@@ -165,7 +165,7 @@ fn parent_of(alloc: Global, parent: Option<CoreType>) -> Option<Ty>
 /// The definition with a number, before whose methods so many stand.
 #[tactic(auto, unfolding(crate::specs::CoreLibrary::def_of))]
 fn def_of(alloc: Global, number: usize, methods_before: u32) -> Result<Def, Memory>
-    requires known { number < 36 }
+    requires known { number < table.core_defs }
     requires before { methods_before ≡ spec.methods_before number }
     ensures { IfOk result (λ def. def ≡ spec.def_of number) }
 {
@@ -190,7 +190,7 @@ fn def_of(alloc: Global, number: usize, methods_before: u32) -> Result<Def, Memo
 
 /// The number of the name of the definition with a number.
 fn def_name(number: u32) -> NameId
-    requires { number < 36 }
+    requires { number < table.core_defs }
     ensures { result ≡ spec.name_id (table.def_text number) }
 {
     NameId(number)

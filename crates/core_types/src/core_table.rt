@@ -1,9 +1,5 @@
 //! The core library as data: its definitions and methods, in order. It has no fields.
 
-ghost use Rattle.std.specs.Prelude.{◌≡◌, ◌<◌, ◌≤◌, length};
-ghost use Rattle.core_types.specs.CoreLibrary as library;
-ghost use Rattle.core_types.specs.CoreTable as spec;
-
 use crate::core_type::CoreType;
 
 /// What a definition is, which tells its flags (ECMA-335 II.23.1.15).
@@ -102,6 +98,9 @@ pub struct CoreMethod {
 
 /// How many definitions there are.
 pub const DEF_COUNT: usize = 36;
+
+/// How many methods they have.
+pub const METHOD_COUNT: usize = 98;
 
 /// How many names there are.
 pub const NAME_COUNT: usize = 52;
@@ -434,98 +433,3 @@ pub static CORE_METHODS: [&[CoreMethod]; DEF_COUNT] = [
         method!(Static Void Write(Char)),
     ],
 ];
-
-/// The name with a number.
-pub fn core_name(number: usize) -> &'static str
-    requires { number < 52 }
-    ensures { result.now ≡ spec.text number }
-{
-    CORE_NAMES[number]
-}
-
-/// The row of the definition with a number.
-#[tactic(auto, unfolding(crate::specs::CoreTable::row))]
-pub fn def_row(number: usize) -> CoreDef
-    requires { number < 36 }
-    ensures { result ≡ spec.row number }
-{
-    CORE_DEFS[number]
-}
-
-/// The rows of the methods of the definition with a number.
-pub fn method_rows(number: usize) -> &'static [CoreMethod]
-    requires { number < 36 }
-    ensures { result.now ≡ spec.method_rows number }
-{
-    CORE_METHODS[number]
-}
-
-/// How many methods the definition with a number has.
-#[tactic(auto, using(crate::proofs::CoreFacts::few))]
-pub(crate) fn method_count(number: usize) -> u32
-    requires { number < 36 }
-    ensures exact { result ≡ length (spec.method_rows number) }
-    ensures small { result ≤ 12 }
-{
-    method_rows(number).len() as u32
-}
-
-impl MemberName {
-    /// Its number among the names of methods.
-    pub fn number(self) -> u32
-        ensures exact { result ≡ spec.member_number self }
-        ensures small { result < 16 }
-    {
-        self as u32
-    }
-}
-
-impl DefKind {
-    /// TypeAttributes (II.23.1.15).
-    pub fn flags(self) -> u32
-        ensures { result ≡ library.def_flags self }
-    {
-        match self {
-            DefKind::Class => 0x0,
-            DefKind::Abstract => 0x80,
-            DefKind::Sealed | DefKind::Value => 0x100,
-            DefKind::Static => 0x180,
-            DefKind::Interface => 0xa0,
-        }
-    }
-}
-
-impl FormalKind {
-    /// GenericParamAttributes (II.23.1.7).
-    pub fn flags(self) -> u32
-        ensures { result ≡ library.formal_flags self }
-    {
-        match self {
-            FormalKind::Invariant => 0,
-            FormalKind::Contravariant => 2,
-        }
-    }
-}
-
-impl MethodKind {
-    /// MethodAttributes (II.23.1.10).
-    pub fn flags(self) -> u32
-        ensures { result ≡ library.method_flags self }
-    {
-        match self {
-            MethodKind::Instance => 0x6,
-            MethodKind::Static => 0x16,
-            MethodKind::Override => 0x46,
-            MethodKind::NewSlot => 0x146,
-            MethodKind::Final => 0x166,
-            MethodKind::Interface => 0x546,
-        }
-    }
-
-    /// Whether a method is called on an instance.
-    pub fn has_this(self) -> bool
-        ensures { result ≡ library.has_this self }
-    {
-        !matches!(self, MethodKind::Static)
-    }
-}

@@ -2,7 +2,7 @@
 
 ghost use Rattle.std.specs.Prelude.{◌≡◌, ◌<◌, [], length, IfOk, OnOk, OnErr};
 ghost use Rattle.std.specs.Str.{bytes_eq};
-ghost use Rattle.core_types.specs.Names.{number_in, with_one};
+ghost use Rattle.core_types.specs.Names.{id_in, with_one};
 
 use clr_base::{Memory, NameId, Text};
 use indexmap::IndexSet;
@@ -55,7 +55,7 @@ impl Names {
     pub fn number(&mut self, alloc: Global, text: &str) -> Result<NameId, Memory>
         requires { length self.old < 4294967295 }
         ensures kept { OnOk result (self.new ≡ with_one bytes_eq self.old text.now) }
-        ensures number { IfOk result (λ id. id ≡ record { 0 = number_in self.old text.now }) }
+        ensures number { IfOk result (λ id. id ≡ id_in self.old text.now) }
         ensures err { OnErr result (self.new ≡ self.old) }
     {
         if let Some(index) = self.set.get_index_of(text) {
@@ -69,7 +69,7 @@ impl Names {
     /// text's length, however many names there are.
     pub fn find(&self, text: &str) -> NameId
         requires { length self.now < 4294967296 }
-        ensures { result ≡ record { 0 = number_in self.now text.now } }
+        ensures { result ≡ id_in self.now text.now }
     {
         match self.set.get_index_of(text) {
             Some(index) => NameId(index as u32),

@@ -8,6 +8,7 @@ use Rattle.std.specs.Option.{option_map_or}
 use Rattle.cli_tables.specs.Layout.{cell, row_count}
 use Rattle.cli_tables.specs.Metadata.{Metadata}
 use Rattle.cli_tables.specs.Schema.{columns}
+use Rattle.image_rows.specs.Cells.{first_with}
 use Rattle.image_rows.specs.Nesting.{if_before, enclosing_row, enclosing_rows}
 
 -- the columns NestedClass and EnclosingClass are there
@@ -91,7 +92,7 @@ said_more m k i nested outer rows rows' is within said nested_is outer_is set = 
 
 -- all of them
 pub said_all : (m : Metadata) (k : ℕ) (rows : List ℕ) → k ≡ 0 → SaidBehind m k rows → rows ≡ enclosing_rows m
-unfolding enclosing_row enclosing_rows enclosing_by
+unfolding enclosing_row enclosing_rows enclosing_by first_with
 said_all m k rows first said =
     let whole : row_count m.tables 0x29 - k ≡ row_count m.tables 0x29 = omega arith in
     fill_by_all (enclosing_row m) rows (row_count m.tables 0x02 + 1) 0 said.count

@@ -9,8 +9,7 @@ use Rattle.cli_tables.specs.Heaps.{text_at}
 use Rattle.cli_tables.specs.Layout.{cell, row_count}
 use Rattle.cli_tables.specs.Metadata.{Metadata}
 use Rattle.cli_tables.specs.Schema.{columns}
-use Rattle.image_rows.specs.Cells.{text, text_or_none}
-use Rattle.image_rows.specs.Nesting.{AreTypesNamed}
+use Rattle.image_rows.specs.Cells.{text, text_or_empty}
 use Rattle.image_rows.specs.Rows.{checked_tables, is_text, text_checks, cell_checks, column_checks, rule_checks, row_checks, table_checks, rows_checks, ArePassed}
 
 first_passes : (r s : Result (Unit {0}) ImageFault) → after r s ≡ Ok (tt {0}) → r ≡ Ok (tt {0})
@@ -90,7 +89,8 @@ unfolding rows_checks
 type_defs_pass m all = passed_at (length checked_tables) 1 (λ k. table_checks m (slice_index checked_tables k)) (omega arith) all
 
 -- the names and namespaces of type definitions are texts
-are_types_named : (m : Metadata) → ArePassed m → AreTypesNamed m
+are_types_named : (m : Metadata) → ArePassed m → (row column : ℕ) → 1 ≤ row → row ≤ row_count m.tables 2 → (column ≡ 1) ⊎ (column ≡ 2)
+    → is_text (text_at m.strings (cell m.tables 2 row column)) ≡ true
 unfolding columns cell_checks
 are_types_named m all row column first last which =
     let here : (c : ℕ) → c < length (columns 2) → first_fault (cell_checks m 2 row c) ≡ Ok (tt {0}) =
@@ -100,7 +100,7 @@ are_types_named m all row column first last which =
       | inr two ↦ subst (λ c. is_text (text_at m.strings (cell m.tables 2 row c)) ≡ true) (sym two) (text_passes _ _ _ (here 2 (omega arith)))
     ]
 
-has_text : (o : Option (List ℕ)) → is_text o ≡ true → o ≡ Some (text_or_none o)
+has_text : (o : Option (List ℕ)) → is_text o ≡ true → o ≡ Some (text_or_empty o)
 has_text None good = cc
 has_text (Some t) good = rw good refl
 

@@ -1,7 +1,6 @@
 -- Blobs of signatures, and what is read of them (ECMA-335 II.23.2, II.24.2.4).
-use Rattle.std.specs.Prelude.{ℕ, List, [], ◌∷◌, ◌==◌, Bool, false, Result, Ok, Err, unwrap_or}
+use Rattle.std.specs.Prelude.{ℕ, List, [], ◌∷◌, ◌==◌, Bool, false, Result, Ok, Err}
 use Rattle.cli_sigs.specs.declared.signature.RowCounts.{RowCounts}
-use Rattle.cli_tables.specs.Heaps.{blob_at}
 use Rattle.cli_tables.specs.Metadata.{Metadata}
 use Rattle.image_rows.specs.Cells.{rows}
 
@@ -13,10 +12,6 @@ row_counts m = record { type_def = rows m 0x02; type_ref = rows m 0x01; type_spe
 abbrev pub value_or : {X : Type 0} → X → Result X ℕ → X
 value_or d (Ok x) = x
 value_or d (Err place) = d
-
--- the blob at an index, empty where there is none
-abbrev pub blob_by : Metadata → ℕ → List ℕ
-blob_by m index = unwrap_or (blob_at m.blobs index) []
 
 -- whether a blob begins with a code; a field's begins with 06
 abbrev pub begins_with : ℕ → List ℕ → Bool

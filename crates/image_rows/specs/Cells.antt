@@ -20,17 +20,24 @@ rows_of m table = range_with_len 1 (rows m table)
 abbrev pub at : Metadata → ℕ → ℕ → ℕ → ℕ
 at m table row column = cell m.tables table row column
 
--- a text, and nothing where there is none, which is not so in a file that passes its checks
-abbrev pub text_or_none : Option (List ℕ) → List ℕ
-text_or_none None = []
-text_or_none (Some t) = if is_utf8 t then t else []
+-- a text, empty where there is none, which is not so in a file that passes its checks
+abbrev pub text_or_empty : Option (List ℕ) → List ℕ
+text_or_empty None = []
+text_or_empty (Some t) = if is_utf8 t then t else []
+
+-- the text and the blob at an index, empty where there is none
+abbrev pub text_by : Metadata → ℕ → List ℕ
+text_by m index = text_or_empty (text_at m.strings index)
+
+abbrev pub blob_by : Metadata → ℕ → List ℕ
+blob_by m index = unwrap_or (blob_at m.blobs index) []
 
 -- the text and the blob at the index in a cell
 unfoldable pub text : Metadata → ℕ → ℕ → ℕ → List ℕ
-text m table row column = text_or_none (text_at m.strings (at m table row column))
+text m table row column = text_by m (at m table row column)
 
 unfoldable pub blob : Metadata → ℕ → ℕ → ℕ → List ℕ
-blob m table row column = unwrap_or (blob_at m.blobs (at m table row column)) []
+blob m table row column = blob_by m (at m table row column)
 
 -- The row that a coded index means (II.24.2.6): none where its row is 0 or its tag has no table.
 abbrev pub of_table : Option ℕ → ℕ → Option RowOf

@@ -14,8 +14,8 @@ use Rattle.image_rows.specs.declared.signature_checks.SigColumn.{SigColumn}
 use Rattle.image_rows.specs.declared.signature_checks.SigKind.{SigKind}
 use Rattle.image_rows.specs.declared.signature_checks.SigKind.TheVariants as kind
 use Rattle.image_rows.specs.declared.signature_checks.TheConstants.{SIG_COLUMNS}
-use Rattle.image_rows.specs.Blobs.{begins_with, blob_by, row_counts}
-use Rattle.image_rows.specs.Cells.{at}
+use Rattle.image_rows.specs.Blobs.{begins_with, row_counts}
+use Rattle.image_rows.specs.Cells.{at, blob_by}
 use Rattle.image_rows.specs.Rows.{token}
 
 -- Whether a blob is a signature of a kind. What a member's begins with tells a field's from a method's; of what else stands

@@ -1,5 +1,5 @@
 //! Blobs of signatures, and what is read of them (ECMA-335 II.23.2, II.24.2.4).
-ghost use Rattle.std.specs.Prelude.{◌≡◌, ◌<◌, ◌^◌, ℕ, Result, length, IfOk};
+ghost use Rattle.std.specs.Prelude.{◌≡◌, ℕ, Result, IfOk};
 ghost use Rattle.cli_sigs.specs.Signatures.{Answers};
 ghost use Rattle.image_rows.specs.Blobs as spec;
 
@@ -43,16 +43,5 @@ pub fn begins_with(code: u8, blob: &[u8]) -> bool
     match blob {
         [first, ..] => *first == code,
         [] => false,
-    }
-}
-
-/// The blob at an index; empty where there is none, which is not so in a file whose rows pass.
-pub fn blob_by<'a>(tables: &Tables<'a>, index: u32) -> &'a [u8]
-    ensures exact { result.now ≡ spec.blob_by tables.now index }
-    ensures short { length result.now < 2 ^ 32 }
-{
-    match tables.blob(index) {
-        Ok(blob) => blob,
-        Err(_) => &[],
     }
 }

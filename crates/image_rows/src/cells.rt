@@ -12,29 +12,44 @@ pub struct RowOf {
     pub row: u32,
 }
 
-/// The text whose index stands in a cell; empty where there is none, which is not so in a file that passes its checks.
-#[tactic(auto, unfolding(crate::specs::Cells::text))]
-pub fn text<'a>(tables: &Tables<'a>, table: u8, row: u32, column: u8) -> &'a str
-    requires { IsCell tables.now.tables table row column }
-    ensures { result.now ≡ spec.text tables.now table row column }
+/// The text at an index of `#Strings`; empty where there is none, which is not so in a file that passes its checks.
+pub fn text_by<'a>(tables: &Tables<'a>, index: u32) -> &'a str
+    ensures { result.now ≡ spec.text_by tables.now index }
 {
-    match tables.string(tables.cell(table, row, column)) {
+    match tables.string(index) {
         Ok(text) => text,
         Err(_) => "",
     }
 }
 
-/// The blob whose index stands in a cell; empty where there is none, which is not so in a file that passes its checks.
+/// The blob at an index of `#Blob`; empty where there is none, which is not so in a file whose rows pass their checks.
+pub fn blob_by<'a>(tables: &Tables<'a>, index: u32) -> &'a [u8]
+    ensures exact { result.now ≡ spec.blob_by tables.now index }
+    ensures short { length result.now < 2 ^ 32 }
+{
+    match tables.blob(index) {
+        Ok(blob) => blob,
+        Err(_) => &[],
+    }
+}
+
+/// The text whose index stands in a cell; empty where there is none.
+#[tactic(auto, unfolding(crate::specs::Cells::text))]
+pub fn text<'a>(tables: &Tables<'a>, table: u8, row: u32, column: u8) -> &'a str
+    requires { IsCell tables.now.tables table row column }
+    ensures { result.now ≡ spec.text tables.now table row column }
+{
+    text_by(tables, tables.cell(table, row, column))
+}
+
+/// The blob whose index stands in a cell; empty where there is none.
 #[tactic(auto, unfolding(crate::specs::Cells::blob))]
 pub fn blob<'a>(tables: &Tables<'a>, table: u8, row: u32, column: u8) -> &'a [u8]
     requires { IsCell tables.now.tables table row column }
     ensures exact { result.now ≡ spec.blob tables.now table row column }
     ensures short { length result.now < 2 ^ 32 }
 {
-    match tables.blob(tables.cell(table, row, column)) {
-        Ok(blob) => blob,
-        Err(_) => &[],
-    }
+    blob_by(tables, tables.cell(table, row, column))
 }
 
 /// The row that a coded index means (II.24.2.6): none where its row is 0 or its tag has no table.

@@ -15,8 +15,8 @@ mod rows;
 mod signature_checks;
 mod table_numbers;
 
-pub use blobs::{FIELD_CODE, LOCALS_CODE, begins_with, blob_by, row_counts, value_or};
-pub use cells::{RowOf, blob, coded, text};
+pub use blobs::{FIELD_CODE, LOCALS_CODE, begins_with, row_counts, value_or};
+pub use cells::{RowOf, blob, blob_by, coded, text, text_by};
 pub use definition_names::full_names;
 pub use image::{read_image, read_tables};
 pub use laws::type_names_are_texts;

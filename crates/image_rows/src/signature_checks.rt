@@ -6,7 +6,8 @@ ghost use Rattle.image_rows.specs.Refusals.{Gives};
 ghost use Rattle.image_rows.specs.SignatureChecks as spec;
 ghost use Rattle.image_rows.specs.SignatureChecks.{AreNotes};
 
-use crate::blobs::{FIELD_CODE, LOCALS_CODE, begins_with, blob_by, row_counts};
+use crate::blobs::{FIELD_CODE, LOCALS_CODE, begins_with, row_counts};
+use crate::cells::blob_by;
 use crate::refusal::Refusal;
 use crate::rows::token;
 use cli_sigs::{
@@ -17,16 +18,17 @@ use clr_base::{FaultKind, Memory, check};
 use indexmap::IndexMap;
 use std::alloc::Global;
 
-// `Member` is a field's or a method's, `Locals` is asked only of what begins as the types of local variables do, and
-// `Arguments` are those of a generic method.
 /// What signature stands in a column.
 #[derive(Clone, Copy, Debug)]
 pub enum SigKind {
     Field,
     Method,
+    /// A field's or a method's.
     Member,
+    /// The types of local variables, asked only of what begins as these do.
     Locals,
     Type,
+    /// The arguments of a generic method.
     Arguments,
 }
 

@@ -25,7 +25,7 @@ module _ (first count : Run → ℕ) (names : List NameId) where
   groups_at (s ∷ rs) (h ∷ gs) all zero r g run own =
       let same_run : s ≡ r = cc in
       let same_groups : h ≡ Some g = cc in
-      subst (λ (x : Run). HasGroups names (first x) (count x) (Some g)) same_run (subst (HasGroups names (first s) (count s)) same_groups all.0)
+      (subst (λ (x : Run). HasGroups names (first x) (count x) (Some g)) same_run (subst (HasGroups names (first s) (count s)) same_groups all.0)).1
   groups_at (s ∷ rs) (h ∷ gs) all (suc d) r g run own = groups_at rs gs all.1 d r g run own
 
   -- the groups of one run more, which is read from a list that equals the runs

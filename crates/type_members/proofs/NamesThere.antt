@@ -12,10 +12,10 @@ use Rattle.type_names.specs.declared.resolution.DefPlace.{DefPlace}
 use Rattle.core_types.specs.CoreLibrary.{texts_in_order}
 use Rattle.core_types.specs.CoreTable.{core_defs}
 use Rattle.image_rows.specs.Cells.{rows_of, text}
-use Rattle.core_types.specs.Names.{with_one, with_all, first_seen, number_in}
+use Rattle.core_types.specs.Names.{with_one, with_all, first_seen, id_in, number_in}
 use Rattle.type_names.specs.Resolution.{def_at, resolved}
 use Rattle.image_rows.specs.TypeNames.{full_name, name_of_ref}
-use Rattle.type_names.specs.WorldNames.{missing_refs, file_texts, names, name_id, target_at, target_of, type_rows, file_names}
+use Rattle.type_names.specs.WorldNames.{missing_refs, file_texts, names, target_in, target_of_in, type_rows, type_rows_in, file_names, file_names_in}
 use Rattle.type_members.proofs.FileSums.{all_rows, rows_within}
 use Rattle.clr_base.proofs.ListFacts.{choose, both}
 use Rattle.type_members.proofs.MembersFit.{NamesFit, name_fits}
@@ -135,11 +135,10 @@ module _ (files : List Metadata) where
   -- ---- their numbers
 
   module _ (c : Counts) (all : c.names ≡ length (names files)) where
-    id_fits : (t : List ℕ) → is_among (names files) t ≡ true → name_fits c (name_id files t) ≡ true
-    unfolding name_id
+    id_fits : (t : List ℕ) → is_among (names files) t ≡ true → name_fits c (id_in (names files) t) ≡ true
     id_fits t e = lt-ltb (number_in (names files) t) c.names (omega (arith, all, number_below (names files) t e))
 
-    ids_fit : (give : ℕ → List ℕ) (rows : List ℕ) → There (map give rows) → list_all (name_fits c) (map (λ row. name_id files (give row)) rows) ≡ true
+    ids_fit : (give : ℕ → List ℕ) (rows : List ℕ) → There (map give rows) → list_all (name_fits c) (map (λ row. id_in (names files) (give row)) rows) ≡ true
     ids_fit give [] h = refl
     ids_fit give (row ∷ rest) h =
         let parts = and_parts (is_among (names files) (give row)) (list_all (is_among (names files)) (map give rest)) h in
@@ -148,21 +147,21 @@ module _ (files : List Metadata) where
     module _ (k : ℕ) (m : Metadata) (defs : core_defs + all_rows files 0x02 ≤ c.defs) where
       target_here : (row : ℕ) (rest : List ℕ) (o : Option DefPlace) → resolved files k m row ≡ o
           → There (map (name_of_ref m) (if is_none o then row ∷ filter (λ r. is_none (resolved files k m r)) rest else filter (λ r. is_none (resolved files k m r)) rest))
-          → (target_fits c (target_at files (name_of_ref m row) o) ≡ true) × There (map (name_of_ref m) (filter (λ r. is_none (resolved files k m r)) rest))
+          → (target_fits c (target_in (names files) files (name_of_ref m row) o) ≡ true) × There (map (name_of_ref m) (filter (λ r. is_none (resolved files k m r)) rest))
       target_here row rest None e h =
           let parts = and_parts (is_among (names files) (name_of_ref m row)) _ h in
           (id_fits (name_of_ref m row) parts.0, parts.1)
       target_here row rest (Some p) e h = (lt-ltb (def_at files p).0 c.defs (omega (arith, resolved_there files k m row p e, defs)), h)
 
       targets_fit : (rows : List ℕ) → There (map (name_of_ref m) (filter (λ r. is_none (resolved files k m r)) rows))
-          → list_all (target_fits c) (map (target_of files k m) rows) ≡ true
+          → list_all (target_fits c) (map (target_of_in (names files) files k m) rows) ≡ true
       targets_fit [] h = refl
       targets_fit (row ∷ rest) h =
           let parts = target_here row rest (resolved files k m row) refl h in
           both _ _ parts.0 (targets_fit rest parts.1)
 
       pub type_rows_fit : slice_get files k ≡ Some m → 52 < c.names → RowsFit c (type_rows files k m)
-      unfolding type_rows
+      unfolding type_rows_in
       type_rows_fit e empty =
           let there = texts_there k m (file_there k m e) in
           record {
@@ -173,7 +172,7 @@ module _ (files : List Metadata) where
           }
 
       pub file_names_fit : slice_get files k ≡ Some m → 52 < c.names → NamesFit c (file_names files k m)
-      unfolding file_names
+      unfolding file_names_in
       file_names_fit e empty =
           let there = texts_there k m (file_there k m e) in
           record {

@@ -11,7 +11,7 @@ use Rattle.type_names.specs.declared.file_names.FileNames.{FileNames}
 use Rattle.image_rows.specs.Cells.{rows}
 use Rattle.type_names.specs.Resolution.{rows_before}
 use Rattle.type_members.specs.Trees.{AreNumbered}
-use Rattle.type_names.specs.WorldNames.{all_file_names, file_names, type_rows}
+use Rattle.type_names.specs.WorldNames.{all_file_names, file_names, file_names_in, type_rows_in}
 
 -- each file has its names
 pub names_count : (files : List Metadata) (names : List FileNames) → names ≡ all_file_names files → length names ≡ length files
@@ -47,6 +47,6 @@ before_none files table = refl
 -- the definitions of a file are numbered, where no file has more than a coded index can name
 pub names_numbered : (files : List Metadata) (k : ℕ) (m : Metadata) (n : FileNames) → n ≡ file_names files k m → k < 16
     → rows_before files k 0x02 ≤ 16777215 * k → rows m 0x02 ≤ 16777215 → AreNumbered n.types
-unfolding file_names type_rows
+unfolding file_names_in type_rows_in
 names_numbered files k m n is few before own =
     subst (λ (x : FileNames). AreNumbered x.types) (sym is) (omega (arith, few, before, own))

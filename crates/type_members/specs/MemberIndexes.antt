@@ -45,10 +45,10 @@ pub record AreFew (w : MemberTable) : Type 0 where
 abbrev pub most_one_by_one : ℕ
 most_one_by_one = 32
 
--- the groups of a run, which only a run with few members may lack
+-- the groups of a run; a run with few members has none
 abbrev pub HasGroups : List NameId → ℕ → ℕ → Option MemberGroups → Type 0
 HasGroups names first count None = count ≤ most_one_by_one
-HasGroups names first count (Some g) = AreGroups names first count g
+HasGroups names first count (Some g) = (most_one_by_one < count) × AreGroups names first count g
 
 -- each of some runs has its groups, in order, where its first member and its count are these
 abbrev pub AreGroupsOf : (Run → ℕ) → (Run → ℕ) → List NameId → List Run → List (Option MemberGroups) → Type 0
@@ -57,8 +57,7 @@ AreGroupsOf first count names [] (g ∷ gs) = ⊥
 AreGroupsOf first count names (r ∷ rs) [] = ⊥
 AreGroupsOf first count names (r ∷ rs) (g ∷ gs) = HasGroups names (first r) (count r) g × AreGroupsOf first count names rs gs
 
--- An index has the own members of each definition of a table by their names, one after the other, but for definitions with few of
--- them; their numbers fit 32 bits.
+-- An index has the groups of the own members of each definition of a table, one after the other; the members' numbers fit 32 bits.
 pub record IsIndexOf (w : MemberTable) (index : MemberIndex) : Type 0 where
   pub methods : AreGroupsOf (λ r. r.first_method) (λ r. r.methods) (method_names w) w.runs index.methods
   pub fields : AreGroupsOf (λ r. r.first_field) (λ r. r.fields) (field_names w) w.runs index.fields

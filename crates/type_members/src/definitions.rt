@@ -3,7 +3,6 @@ ghost use Rattle.std.specs.Prelude.{◌≡◌, ◌≤◌, ◌<◌, IfOk};
 ghost use Rattle.cli_tables.specs.Layout.{row_count};
 ghost use Rattle.type_members.specs.Definitions as spec;
 ghost use Rattle.type_members.specs.MemberTable.{run_at};
-ghost use Rattle.type_members.specs.Members as members;
 ghost use Rattle.type_members.specs.RowIndexes.{AreFileRows, Indexes};
 ghost use Rattle.type_members.specs.Trees.{AreNumbered};
 
@@ -16,17 +15,15 @@ use crate::row_index::RowIndex;
 use crate::signature_trees::type_at_row;
 use cli_tables::{CodedIndex, Tables};
 use clr_base::Memory;
+use core_types::METHOD_COUNT;
 use image_rows::{
-    CLASS_LAYOUT, FIELD, FIELD_LAYOUT, FIELD_LIST, INTERFACE_IMPL, METHOD_DEF, METHOD_LIST,
-    TYPE_DEF, before_run, coded, run_len,
+    CLASS_LAYOUT, FIELD, FIELD_LIST, INTERFACE_IMPL, METHOD_DEF, METHOD_LIST, TYPE_DEF, before_run,
+    coded, run_len,
 };
 use sqlite_items::Items;
 use std::alloc::Global;
 use type_names::{FileNames, TypeRows};
 use type_tree::{Def, Impl, Ty, TyList};
-
-/// How many methods the core has: they stand before those of files.
-pub const CORE_METHOD_COUNT: u32 = 98;
 
 /// The columns of TypeDef: its flags, and what it extends.
 const FLAGS: u8 = 0;
@@ -42,11 +39,6 @@ const PACKING_SIZE: u8 = 0;
 const CLASS_SIZE: u8 = 1;
 
 const PARENT: u8 = 2;
-
-/// The columns of FieldLayout: Offset, and Field.
-const OFFSET: u8 = 0;
-
-const LAID_FIELD: u8 = 1;
 
 /// What a definition extends, nothing where its row is 0.
 #[tactic(auto, unfolding(crate::specs::Definitions::parent_of, cli_tables::specs::Schema::columns))]
@@ -101,15 +93,6 @@ fn layout_of(tables: &Tables<'_>, class_layouts: &RowIndex, column: u8, row: u32
     }
 }
 
-/// The offset in the first FieldLayout row of a field (II.22.16), given an index of these rows by their field.
-#[tactic(auto, unfolding(cli_tables::specs::Schema::columns))]
-pub fn place_of(tables: &Tables<'_>, field_layouts: &RowIndex, row: u32) -> Option<u32>
-    requires { Indexes tables.now 0x10 1 field_layouts.now }
-    ensures { result ≡ members.place_of tables.now row }
-{
-    first_cell(tables, field_layouts, FIELD_LAYOUT, LAID_FIELD, OFFSET, row)
-}
-
 /// The run of the definition in a TypeDef row, where files before its own have so many fields and methods.
 #[tactic(auto, unfolding(crate::specs::MemberTable::run_at, cli_tables::specs::Schema::columns))]
 pub fn run_of(tables: &Tables<'_>, fields_before: u32, methods_before: u32, row: u32) -> Run
@@ -119,7 +102,7 @@ pub fn run_of(tables: &Tables<'_>, fields_before: u32, methods_before: u32, row:
     requires last { row ≤ row_count tables.now.tables 0x02 }
     ensures { result ≡ run_at fields_before methods_before tables.now row }
 {
-    let methods_before = CORE_METHOD_COUNT + methods_before;
+    let methods_before = METHOD_COUNT as u32 + methods_before;
     Run {
         first_field: fields_before + before_run(tables, FIELD_LIST, FIELD, row),
         fields: run_len(tables, FIELD_LIST, FIELD, row),

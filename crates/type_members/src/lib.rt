@@ -14,7 +14,7 @@ mod open_method;
 mod row_index;
 mod signature_trees;
 
-pub use definitions::{CORE_METHOD_COUNT, def_of, run_of};
+pub use definitions::{def_of, run_of};
 pub use file_rows::FileRows;
 pub use member_index::MemberIndex;
 pub use member_table::{MemberTable, Run};

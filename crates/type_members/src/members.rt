@@ -2,17 +2,20 @@
 ghost use Rattle.std.specs.Prelude.{◌≡◌, ◌-◌, ◌≤◌, ◌++◌, get_or, IfOk, OnOk};
 ghost use Rattle.cli_tables.specs.Layout.{row_count};
 ghost use Rattle.type_members.specs.Members as spec;
-ghost use Rattle.type_members.specs.RowIndexes.{AreFileRows};
+ghost use Rattle.type_members.specs.RowIndexes.{AreFileRows, Indexes};
 ghost use Rattle.type_members.specs.Trees.{AreNumbered, empty_name};
 
-use crate::definitions::place_of;
 use crate::file_rows::FileRows;
 use crate::formals::{formals_of, method_owner};
+use crate::indexed_rows::first_cell;
+use crate::row_index::RowIndex;
 use crate::signature_trees::{EMPTY_NAME, tree, trees};
 use cli_sigs::{SigMethod, SigTy, read_field, read_method};
 use cli_tables::Tables;
 use clr_base::{DefId, Memory, NameId};
-use image_rows::{FIELD, FIELD_LIST, METHOD_DEF, METHOD_LIST, blob, owners, row_counts, value_or};
+use image_rows::{
+    FIELD, FIELD_LAYOUT, FIELD_LIST, METHOD_DEF, METHOD_LIST, blob, owners, row_counts, value_or,
+};
 use sqlite_items::{Items, at};
 use std::alloc::Global;
 use type_names::{FileNames, TypeRows};
@@ -27,6 +30,11 @@ const METHOD_SIGNATURE: u8 = 4;
 const FIELD_FLAGS: u8 = 0;
 
 const FIELD_SIGNATURE: u8 = 2;
+
+/// The columns of FieldLayout (II.22.16): Offset, and Field.
+const OFFSET: u8 = 0;
+
+const LAID_FIELD: u8 = 1;
 
 /// What stands for a method's signature where the blob is none.
 pub fn no_method(alloc: Global) -> SigMethod
@@ -118,6 +126,15 @@ fn method_of(
         ret: tree(alloc, types, &sig.ret)?,
         params: trees(alloc, types, sig.params.as_slice())?,
     })
+}
+
+/// The offset in the first FieldLayout row of a field (II.22.16), given an index of these rows by their field.
+#[tactic(auto, unfolding(cli_tables::specs::Schema::columns))]
+fn place_of(tables: &Tables<'_>, field_layouts: &RowIndex, row: u32) -> Option<u32>
+    requires { Indexes tables.now 0x10 1 field_layouts.now }
+    ensures { result ≡ spec.place_of tables.now row }
+{
+    first_cell(tables, field_layouts, FIELD_LAYOUT, LAID_FIELD, OFFSET, row)
 }
 
 /// The field in a row, of the definition in a TypeDef row or of none, which is 0.

@@ -7,7 +7,7 @@ ghost use Rattle.type_members.specs.Trees.{AreNumbered};
 use cli_sigs::{SigTy, read_type_spec};
 use cli_tables::{CodedIndex, Tables};
 use clr_base::{DefId, Memory, NameId};
-use core_types::CoreType;
+use core_types::{CoreType, NAME_COUNT};
 use image_rows::{RowOf, TYPE_DEF, TYPE_REF, TYPE_SPEC, blob, coded, row_counts, value_or};
 use sqlite_items::{Boxed, Items, at};
 use std::alloc::Global;
@@ -15,7 +15,7 @@ use type_names::{Target, TypeRows};
 use type_tree::{Ty, TyList, with_room};
 
 /// The number of the empty name, which stands behind the names of the core.
-pub(crate) const EMPTY_NAME: NameId = NameId(52);
+pub(crate) const EMPTY_NAME: NameId = NameId(NAME_COUNT as u32);
 
 /// The type of the core that a built-in code means (II.23.1.16).
 #[tactic(auto, unfolding(crate::specs::Trees::built_in))]

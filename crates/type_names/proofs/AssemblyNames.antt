@@ -17,10 +17,10 @@ use Rattle.type_names.specs.declared.resolution.DefPlace.TheVariants.{InCore}
 use Rattle.type_names.specs.declared.type_texts.FileTexts.{FileTexts}
 use Rattle.type_names.specs.Assemblies.{has_number, is_among}
 use Rattle.image_rows.specs.Cells.{rows, text}
-use Rattle.core_types.specs.Names.{number_in}
-use Rattle.type_names.specs.Numbering.{column_texts, id_in}
-use Rattle.type_names.specs.Resolution.{assembly_text, core_assemblies, core_type, file_named, has_name, in_assembly, top_in}
-use Rattle.type_names.specs.TypeFinders.{AreTexts, def_in}
+use Rattle.core_types.specs.Names.{number_in, id_in}
+use Rattle.type_names.specs.Numbering.{column_texts}
+use Rattle.type_names.specs.Resolution.{assembly_text, core_assemblies, core_type, file_named, has_name, in_assembly, top_in, def_in}
+use Rattle.type_names.specs.TypeFinders.{AreTexts}
 use Rattle.type_names.specs.TypeTexts.{AreFileTexts, AreNumbers, core_assembly, in_order}
 use Rattle.type_names.proofs.FindTypes.{among_there, same_number}
 use Rattle.type_names.proofs.Settled.{settled_now}

@@ -6,7 +6,7 @@ use Rattle.std.proofs.lemmas.Bool.{and_parts, eqb-true, ltb-true}
 use Rattle.std.proofs.lemmas.Slice.Eq.{bytes_eq-Decides}
 use Rattle.std.proofs.lemmas.Str.{IsCharBoundary-after_ascii}
 use Rattle.core_types.specs.CoreTable.{text, def_text}
-use Rattle.type_names.specs.TypeTexts.{core_namespace, core_type_name}
+use Rattle.type_names.specs.Resolution.{core_namespace, core_type_name}
 use Rattle.clr_base.proofs.Ranges.{all_below, below}
 
 -- the namespaces

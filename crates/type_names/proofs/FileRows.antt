@@ -16,11 +16,11 @@ use Rattle.type_names.specs.declared.type_rows.TypeRows.{TypeRows}
 use Rattle.image_rows.specs.Cells.{rows, rows_of, text}
 use Rattle.core_types.specs.CoreLibrary as core
 use Rattle.core_types.specs.CoreTable as table
-use Rattle.core_types.specs.Names.{with_one, with_all, number_in}
-use Rattle.type_names.specs.Numbering.{IsSettled, column_texts, file_names_in, id_in, target_in, target_of_in, type_rows_in}
+use Rattle.core_types.specs.Names.{with_one, with_all, number_in, id_in}
+use Rattle.type_names.specs.Numbering.{IsSettled, column_texts}
 use Rattle.type_names.specs.Resolution.{first_def, resolved}
 use Rattle.image_rows.specs.TypeNames.{full_name, name_of_ref}
-use Rattle.type_names.specs.WorldNames.{all_file_names, file_names, file_texts, missing_refs, name_id, names, target_at, target_of, type_rows}
+use Rattle.type_names.specs.WorldNames.{all_file_names, file_names, file_names_in, file_texts, missing_refs, names, target_of_in, type_rows_in}
 use Rattle.core_types.proofs.CoreNames.{names_listed}
 use Rattle.type_names.proofs.Settled.{all_append, few_more, settled_on, settled_one}
 use Rattle.type_names.proofs.Targets.{names_after, items_after}
@@ -57,6 +57,11 @@ module _ (files : List Metadata) (k : ℕ) (m : Metadata) where
         defs = rows m 0x02;
         refs = map (target_of_in ns files k m) (rows_of m 0x01);
       }) = cc in
+      let by_row : defs ≡ map (λ row. id_in ns (full_name m row)) (rows_of m 0x02) = defs_are ∙ map-map (id_in ns) (full_name m) (rows_of m 0x02) in
+      let field_by_row : fields ≡ map (λ row. id_in ns (text m 0x04 row 1)) (rows_of m 0x04) =
+      fields_are ∙ map-map (id_in ns) (λ (row : ℕ). text m 0x04 row 1) (rows_of m 0x04) in
+      let method_by_row : methods ≡ map (λ row. id_in ns (text m 0x06 row 3)) (rows_of m 0x06) =
+      methods_are ∙ map-map (id_in ns) (λ (row : ℕ). text m 0x06 row 3) (rows_of m 0x06) in
       cc
 
   after : {A : Type 0} (of : List (List ℕ) → A) (x : A) (before new texts : List (List ℕ)) → IsSettled before of x → new ≡ with_all bytes_eq before texts → IsSettled new of x
@@ -83,23 +88,6 @@ module _ (files : List Metadata) (k : ℕ) (m : Metadata) where
       }
 
 -- ---- all files
-
-same_all : {X A : Type 0} (f g : X → A) → ((x : X) → f x ≡ g x) → (xs : List X) → map f xs ≡ map g xs
-same_all f g same [] = refl
-same_all f g same (x ∷ xs) = ap₂ (λ y ys. y ∷ ys) (same x) (same_all f g same xs)
-
-joined : (files : List Metadata) (k : ℕ) (m : Metadata) (defs defs' fields fields' methods methods' : List NameId) (refs refs' : List Target)
-    → defs ≡ defs' → refs ≡ refs' → fields ≡ fields' → methods ≡ methods'
-    → ◌≡◌ {A = FileNames}
-    (record { defs = defs; types = record { first_def = first_def files k; defs = rows m 0x02; refs = refs }; fields = fields; methods = methods })
-    (record { defs = defs'; types = record { first_def = first_def files k; defs = rows m 0x02; refs = refs' }; fields = fields'; methods = methods' })
-joined files k m defs defs' fields fields' methods methods' refs refs' defs_are refs_are fields_are methods_are =
-    let types : ◌≡◌ {A = TypeRows} (record { first_def = first_def files k; defs = rows m 0x02; refs = refs }) (record {
-      first_def = first_def files k;
-      defs = rows m 0x02;
-      refs = refs';
-    }) = cc in
-    cc
 
 module _ (files : List Metadata) where
   file_read : (k : ℕ) (m : Metadata) → slice_get files k ≡ Some m → take (k + 1) (enumerate_from 0 files) ≡ take k (enumerate_from 0 files) ++ (k, m) ∷ []
@@ -146,27 +134,12 @@ module _ (files : List Metadata) where
       ∙ ap (λ (fs : List (ℕ × Metadata)). with_all bytes_eq (with_one bytes_eq core.names []) (flat_map (file_texts files) fs)) (all_taken n all)
       ∙ sym names_split
 
-  target_read : (name : List ℕ) (place : Option DefPlace) → target_in (names files) files name place ≡ target_at files name place
-  unfolding name_id
-  target_read name None = refl
-  target_read name (Some place) = refl
-
-  file_is : (k : ℕ) (m : Metadata) → file_names_in (names files) files k m ≡ file_names files k m
-  unfolding file_names file_names_in type_rows type_rows_in name_id
-  file_is k m =
-      let defs = map-map (id_in (names files)) (full_name m) (rows_of m 0x02) in
-      let fields = map-map (id_in (names files)) (λ (row : ℕ). text m 0x04 row 1) (rows_of m 0x04) in
-      let methods = map-map (id_in (names files)) (λ (row : ℕ). text m 0x06 row 3) (rows_of m 0x06) in
-      let refs = same_all (target_of_in (names files) files k m) (target_of files k m) (λ row. target_read (name_of_ref m row) (resolved files k m row)) (rows_of m 0x01) in
-      joined files k m _ _ _ _ _ _ _ _ defs refs fields methods
-
   pub rows_all : (n : ℕ) (last : List (List ℕ)) (rows : List FileNames) → n ≡ length files → last ≡ names files
       → IsSettled last (λ ns. map (λ f. file_names_in ns files f.0 f.1) (take n (enumerate_from 0 files))) rows → rows ≡ all_file_names files
   unfolding all_file_names
   rows_all n last rows all named settled =
       settled.is [] ∙ ap (λ (ns : List (List ℕ)). map (λ f. file_names_in ns files f.0 f.1) (take n (enumerate_from 0 files))) named
-      ∙ ap (map (λ f. file_names_in (names files) files f.0 f.1)) (all_taken n all)
-      ∙ same_all (λ f. file_names_in (names files) files f.0 f.1) (λ f. file_names files f.0 f.1) (λ f. file_is f.0 f.1) (enumerate_from 0 files)
+      ∙ ap (map (λ f. file_names files f.0 f.1)) (all_taken n all)
 
 -- ---- the core's names and the empty one
 

@@ -10,10 +10,9 @@ use Rattle.type_names.specs.declared.resolution.DefPlace.TheVariants.{InFile}
 use Rattle.type_names.specs.declared.type_keys.FirstPlaces.{FirstPlaces}
 use Rattle.type_names.specs.declared.type_keys.TypeKey.{TypeKey}
 use Rattle.image_rows.specs.Cells.{rows}
-use Rattle.type_names.specs.Resolution.{core_type, def_row, is_def}
-use Rattle.type_names.specs.TypeFinders.{AreDefs, FindsDefs, FindsTypes, def_in, key_in}
+use Rattle.type_names.specs.Resolution.{core_type, def_row, is_def, def_in, core_namespace, core_type_name}
+use Rattle.type_names.specs.TypeFinders.{AreDefs, FindsDefs, FindsTypes, key_in}
 use Rattle.type_names.specs.TypeKeys.{first_at}
-use Rattle.type_names.specs.TypeTexts.{core_namespace, core_type_name}
 
 -- ---- of the core
 

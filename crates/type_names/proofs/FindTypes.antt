@@ -13,8 +13,7 @@ use Rattle.clr_base.specs.declared.ids.NameId.{NameId}
 use Rattle.type_names.specs.declared.type_keys.FirstPlaces.{FirstPlaces}
 use Rattle.type_names.specs.declared.type_keys.TypeKey.{TypeKey}
 use Rattle.type_names.specs.declared.type_texts.NameColumns.{NameColumns}
-use Rattle.core_types.specs.Names.{number_in}
-use Rattle.type_names.specs.Numbering.{id_in}
+use Rattle.core_types.specs.Names.{number_in, id_in}
 use Rattle.type_names.specs.TypeFinders.{FindsTypes, is_called, key_in}
 use Rattle.type_names.specs.TypeKeys.{Finds, first_of, key_at, key_of, keys_of, number_at, same_key}
 use Rattle.type_names.specs.TypeTexts.{AreNamed, AreNumbers}

@@ -13,11 +13,13 @@ use Rattle.type_names.specs.declared.type_texts.CoreTexts.{CoreTexts}
 use Rattle.type_names.specs.declared.type_texts.FileTexts.{FileTexts}
 use Rattle.image_rows.specs.Cells.{rows, text}
 use Rattle.image_rows.specs.Nesting.{enclosing_row}
-use Rattle.type_names.specs.Numbering.{all_places, column_texts, id_in, places_in}
+use Rattle.type_names.specs.Numbering.{column_texts}
+use Rattle.type_names.specs.Resolution.{all_places, places_in, core_namespace, core_type_name}
+use Rattle.core_types.specs.Names.{id_in}
 use Rattle.type_names.specs.TypeFinders.{AreDefs, AreIndexed, AreSized, AreTexts, FindsDefs, FindsKeys, FindsTypes}
 use Rattle.type_names.specs.TypeKeys.{Finds, keys_of}
 use Rattle.image_rows.specs.TypeNames.{def_name, def_namespace}
-use Rattle.type_names.specs.TypeTexts.{AreCoreTexts, AreFileTexts, AreNumbers, Extends, core_namespace, core_type_name, in_order}
+use Rattle.type_names.specs.TypeTexts.{AreCoreTexts, AreFileTexts, AreNumbers, Extends, in_order}
 use Rattle.type_names.proofs.FindTypes.{finds_types}
 use Rattle.type_names.proofs.Settled.{settled_now}
 use Rattle.type_names.proofs.TextNumbers.{file_on}

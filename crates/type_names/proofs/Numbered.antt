@@ -8,8 +8,9 @@ use Rattle.std.proofs.lemmas.List.FromFn.{length-map-range_with_len, map-range_w
 use Rattle.indexmap.specs.IndexMap.{IndexMap, get}
 use Rattle.clr_base.specs.declared.ids.NameId.{NameId}
 use Rattle.cli_tables.specs.Metadata.{Metadata}
-use Rattle.core_types.specs.Names.{with_one, with_all}
-use Rattle.type_names.specs.Numbering.{id_in, text_by, IsSettled, IsNumbered, AreNoted}
+use Rattle.core_types.specs.Names.{with_one, with_all, id_in}
+use Rattle.type_names.specs.Numbering.{IsSettled, IsNumbered, AreNoted}
+use Rattle.image_rows.specs.Cells.{text_by}
 use Rattle.type_names.proofs.Settled.{all_append, few_more, numbered_one, numbered_more, settled_one, settled_more, settled_push}
 
 -- ---- one row more

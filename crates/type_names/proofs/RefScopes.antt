@@ -14,8 +14,8 @@ use Rattle.type_names.specs.declared.type_texts.FileTexts.{FileTexts}
 use Rattle.image_rows.specs.Cells.{at, coded, of_table, rows, text}
 use Rattle.core_types.specs.Names.{number_in}
 use Rattle.type_names.specs.Numbering.{column_texts}
-use Rattle.type_names.specs.Resolution.{assembly_text, in_assembly, in_scope, nested_in, resolved_within, top_in}
-use Rattle.type_names.specs.TypeFinders.{def_in, key_in}
+use Rattle.type_names.specs.Resolution.{assembly_text, in_assembly, in_scope, nested_in, resolved_within, top_in, def_in}
+use Rattle.type_names.specs.TypeFinders.{key_in}
 use Rattle.type_names.specs.TypeKeys.{key_of}
 use Rattle.image_rows.specs.TypeNames.{ref_name, ref_namespace, scope}
 use Rattle.type_names.specs.TypeTexts.{AreFileTexts}

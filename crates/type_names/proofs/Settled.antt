@@ -7,8 +7,8 @@ use Rattle.std.proofs.lemmas.List.{map-append}
 use Rattle.std.proofs.lemmas.List.Folds.{list_any-append, position_or_len_push}
 use Rattle.std.proofs.lemmas.Slice.Eq.{bytes_eq-Decides}
 use Rattle.clr_base.specs.declared.ids.NameId.{NameId}
-use Rattle.core_types.specs.Names.{with_one, with_all, number_in}
-use Rattle.type_names.specs.Numbering.{id_in, IsSettled, IsNumbered}
+use Rattle.core_types.specs.Names.{with_one, with_all, number_in, id_in}
+use Rattle.type_names.specs.Numbering.{IsSettled, IsNumbered}
 
 -- ---- one more text
 

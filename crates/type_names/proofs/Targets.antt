@@ -12,9 +12,10 @@ use Rattle.cli_tables.specs.Metadata.{Metadata}
 use Rattle.type_names.specs.declared.resolution.DefPlace.{DefPlace}
 use Rattle.type_names.specs.declared.type_rows.Target.TheVariants as target
 use Rattle.image_rows.specs.Cells.{rows, rows_of}
-use Rattle.core_types.specs.Names.{with_one, with_all}
-use Rattle.type_names.specs.Numbering.{IsSettled, all_places, id_in, missing_text, places_in, target_in}
-use Rattle.type_names.specs.Resolution.{resolved}
+use Rattle.core_types.specs.Names.{with_one, with_all, id_in}
+use Rattle.type_names.specs.Numbering.{IsSettled, missing_text}
+use Rattle.type_names.specs.WorldNames.{target_in}
+use Rattle.type_names.specs.Resolution.{resolved, all_places, places_in}
 use Rattle.type_names.proofs.Settled.{all_append, few_more, settled_on, settled_one, settled_push}
 
 -- ---- what the rows name

@@ -9,9 +9,10 @@ use Rattle.cli_tables.specs.Metadata.{Metadata}
 use Rattle.type_names.specs.declared.type_texts.CoreTexts.{CoreTexts}
 use Rattle.type_names.specs.declared.type_texts.FileTexts.{FileTexts}
 use Rattle.type_names.specs.declared.type_texts.NameColumns.{NameColumns}
-use Rattle.core_types.specs.Names.{with_one, with_all}
-use Rattle.type_names.specs.Numbering.{IsSettled, column_texts, id_in}
-use Rattle.type_names.specs.TypeTexts.{AreCoreTexts, AreFileTexts, AreNamed, AreNumbers, Extends, core_namespace, core_type_name, core_assembly, in_order}
+use Rattle.core_types.specs.Names.{with_one, with_all, id_in}
+use Rattle.type_names.specs.Numbering.{IsSettled, column_texts}
+use Rattle.type_names.specs.TypeTexts.{AreCoreTexts, AreFileTexts, AreNamed, AreNumbers, Extends, core_assembly, in_order}
+use Rattle.type_names.specs.Resolution.{core_namespace, core_type_name}
 use Rattle.clr_base.proofs.ListFacts.{both}
 use Rattle.clr_base.proofs.Ranges.{map_more}
 use Rattle.type_names.proofs.Settled.{all_append, among_more, among_one, few_more, settled_one, settled_more, settled_on, settled_push}

@@ -1,7 +1,7 @@
 -- Which definition a reference to a type names (ECMA-335 II.7.3, II.22.38).
-use Rattle.std.specs.Prelude.{ℕ, zero, suc, ◌+◌, ◌-◌, List, [], ◌∷◌, sum_by, take, codes, ◌==◌, nat_le, nat_lt, ◌&&◌, Bool, Option, None, Some, slice_get, if◌then◌else◌}
+use Rattle.std.specs.Prelude.{ℕ, zero, suc, ◌+◌, ◌-◌, List, [], ◌∷◌, map, sum_by, take, codes, ◌==◌, nat_le, nat_lt, ◌&&◌, Bool, Option, None, Some, slice_get, if◌then◌else◌}
 use Rattle.std.specs.Option.{option_map, option_and_then}
-use Rattle.std.specs.List.{find, position, range_with_len, list_any, before_last, after_last}
+use Rattle.std.specs.List.{enumerate_from, find, position, range_with_len, list_any, before_last, after_last}
 use Rattle.std.specs.Str.{bytes_eq}
 use Rattle.clr_base.specs.declared.ids.DefId.{DefId}
 use Rattle.cli_tables.specs.Metadata.{Metadata}
@@ -20,10 +20,15 @@ abbrev pub core_assemblies : List (List ℕ)
 core_assemblies =
     codes "mscorlib" ∷ codes "netstandard" ∷ codes "System.Runtime" ∷ codes "System.Private.CoreLib" ∷ codes "System.Console" ∷ []
 
--- the namespace and the name of a type of the core stand before and behind the last dot of its full name
+-- the namespace and the name of a type of the core: what stands before and behind the last dot of its full name
+unfoldable pub core_namespace : ℕ → List ℕ
+core_namespace k = before_last (λ c. c == 46) (def_text k)
+
+unfoldable pub core_type_name : ℕ → List ℕ
+core_type_name k = after_last (λ c. c == 46) (def_text k)
+
 abbrev pub is_core_type : List ℕ → List ℕ → ℕ → Bool
-is_core_type namespace name k =
-    bytes_eq (before_last (λ c. c == 46) (def_text k)) namespace && bytes_eq (after_last (λ c. c == 46) (def_text k)) name
+is_core_type namespace name k = bytes_eq (core_namespace k) namespace && bytes_eq (core_type_name k) name
 
 unfoldable pub core_type : List ℕ → List ℕ → Option ℕ
 core_type namespace name = find (is_core_type namespace name) (range_with_len 0 core_defs)
@@ -59,16 +64,19 @@ abbrev pub def_at : List Metadata → DefPlace → DefId
 def_at files (InCore k) = record { 0 = k }
 def_at files (InFile k row) = record { 0 = first_def files k + (row - 1) }
 
+-- a definition of a file that stands in that of the row `around`, in none where that is 0
+abbrev pub def_in : List Metadata → ℕ → ℕ → List ℕ → List ℕ → Option DefPlace
+def_in files k around namespace name =
+    option_and_then (λ m. option_map (InFile k) (def_row m around namespace name)) (slice_get files k)
+
 -- a definition that stands in no other
 abbrev pub top_in : List Metadata → ℕ → List ℕ → List ℕ → Option DefPlace
-top_in files k namespace name =
-    option_and_then (λ m. option_map (InFile k) (def_row m 0 namespace name)) (slice_get files k)
+top_in files k = def_in files k 0
 
 -- a definition that stands in another one; none stands in one of the core
 abbrev pub nested_in : List Metadata → DefPlace → List ℕ → List ℕ → Option DefPlace
 nested_in files (InCore k) namespace name = None
-nested_in files (InFile k row) namespace name =
-    option_and_then (λ m. option_map (InFile k) (def_row m row namespace name)) (slice_get files k)
+nested_in files (InFile k row) namespace name = def_in files k row namespace name
 
 -- a definition of an assembly: of the core library under one of its names, else of the first file of that name
 abbrev pub in_assembly : List Metadata → List ℕ → List ℕ → List ℕ → Option DefPlace
@@ -101,3 +109,10 @@ resolved_within (suc n) files k m row =
 
 unfoldable pub resolved : List Metadata → ℕ → Metadata → ℕ → Option DefPlace
 resolved files k m row = resolved_within most_scopes files k m row
+
+-- what each TypeRef row of each file names
+abbrev pub places_in : List Metadata → ℕ × Metadata → List (Option DefPlace)
+places_in files (k, m) = map (resolved files k m) (rows_of m 0x01)
+
+unfoldable pub all_places : List Metadata → List (List (Option DefPlace))
+all_places files = map (places_in files) (enumerate_from 0 files)

@@ -1,22 +1,20 @@
 -- How types are found by their numbers.
 use Rattle.std.specs.Prelude.{◌≡◌, ℕ, ◌+◌, ◌<◌, ◌==◌, ◌&&◌, Bool, List, length, Option, Some, slice_get}
 use Rattle.std.specs.List.{find, range_with_len}
-use Rattle.std.specs.Option.{option_and_then, option_map}
 use Rattle.std.specs.Str.{bytes_eq}
 use Rattle.cli_tables.specs.Metadata.{Metadata}
-use Rattle.type_names.specs.declared.resolution.DefPlace.{DefPlace}
-use Rattle.type_names.specs.declared.resolution.DefPlace.TheVariants.{InFile}
 use Rattle.type_names.specs.declared.type_finder.TypeFinder.{TypeFinder}
 use Rattle.type_names.specs.declared.type_keys.FirstPlaces.{FirstPlaces}
 use Rattle.type_names.specs.declared.type_keys.TypeKey.{TypeKey}
 use Rattle.type_names.specs.declared.type_texts.FileTexts.{FileTexts}
 use Rattle.image_rows.specs.Cells.{rows}
+use Rattle.core_types.specs.CoreTable.{core_defs}
 use Rattle.core_types.specs.Names.{number_in}
 use Rattle.image_rows.specs.Nesting.{enclosing_row}
-use Rattle.type_names.specs.Resolution.{def_row}
+use Rattle.type_names.specs.Resolution.{def_row, core_namespace, core_type_name}
 use Rattle.type_names.specs.TypeKeys.{Finds, first_at, keys_of}
 use Rattle.image_rows.specs.TypeNames.{def_name, def_namespace}
-use Rattle.type_names.specs.TypeTexts.{AreCoreTexts, AreFileTexts, core_namespace, core_type_name}
+use Rattle.type_names.specs.TypeTexts.{AreCoreTexts, AreFileTexts}
 
 -- what a type is called, by the numbers that its namespace and its name have among names
 abbrev pub key_in : List (List ℕ) → ℕ → List ℕ → List ℕ → TypeKey
@@ -61,11 +59,6 @@ pub record AreIndexed (files : List Metadata) (texts : List FileTexts) (defs : L
 pub record IsFinder (f : TypeFinder) : Type 0 where
   pub few : length f.files.now < 17
   pub core : AreCoreTexts f.names f.core
-  pub core_types : FindsTypes f.names 36 (λ i. 0) core_namespace core_type_name f.core_types
+  pub core_types : FindsTypes f.names core_defs (λ i. 0) core_namespace core_type_name f.core_types
   pub texts : AreTexts f.names f.files.now f.texts
   pub defs : AreDefs f.names f.files.now f.defs
-
--- a definition of a file that stands in the one in a row, or in none, which is 0
-abbrev pub def_in : List Metadata → ℕ → ℕ → List ℕ → List ℕ → Option DefPlace
-def_in files k around namespace name =
-    option_and_then (λ m. option_map (InFile k) (def_row m around namespace name)) (slice_get files k)

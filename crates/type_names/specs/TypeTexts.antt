@@ -1,25 +1,18 @@
 -- The numbers of the texts by which types are found.
-use Rattle.std.specs.Prelude.{◌≡◌, ℕ, ◌==◌, List, [], map, true, get_or}
-use Rattle.std.specs.List.{before_last, after_last, list_all, list_any, range_with_len}
+use Rattle.std.specs.Prelude.{◌≡◌, ℕ, List, [], map, true, get_or}
+use Rattle.std.specs.List.{list_all, list_any, range_with_len}
 use Rattle.std.specs.Str.{bytes_eq}
 use Rattle.clr_base.specs.declared.ids.NameId.{NameId}
 use Rattle.cli_tables.specs.Metadata.{Metadata}
 use Rattle.type_names.specs.declared.type_texts.CoreTexts.{CoreTexts}
 use Rattle.type_names.specs.declared.type_texts.FileTexts.{FileTexts}
 use Rattle.type_names.specs.declared.type_texts.NameColumns.{NameColumns}
-use Rattle.core_types.specs.CoreTable.{def_text}
-use Rattle.core_types.specs.Names.{with_all}
-use Rattle.type_names.specs.Numbering.{IsSettled, column_texts, id_in}
-use Rattle.type_names.specs.Resolution.{core_assemblies}
+use Rattle.core_types.specs.CoreTable.{core_defs}
+use Rattle.core_types.specs.Names.{with_all, id_in}
+use Rattle.type_names.specs.Numbering.{IsSettled, column_texts}
+use Rattle.type_names.specs.Resolution.{core_assemblies, core_namespace, core_type_name}
 
 -- ---- the core library
-
--- the namespace and the name of a type of the core
-unfoldable pub core_namespace : ℕ → List ℕ
-core_namespace k = before_last (λ c. c == 46) (def_text k)
-
-unfoldable pub core_type_name : ℕ → List ℕ
-core_type_name k = after_last (λ c. c == 46) (def_text k)
 
 -- the names of assemblies under which the core is found, by their places
 abbrev pub core_assembly : ℕ → List ℕ
@@ -55,6 +48,6 @@ pub record AreFileTexts (names : List (List ℕ)) (m : Metadata) (found : FileTe
 
 -- those of the core have these
 pub record AreCoreTexts (names : List (List ℕ)) (found : CoreTexts) : Type 0 where
-  pub types : AreNamed names (in_order core_namespace 36) (in_order core_type_name 36) found.types
+  pub types : AreNamed names (in_order core_namespace core_defs) (in_order core_type_name core_defs) found.types
   pub assemblies : AreNumbers names (in_order core_assembly 5) found.assemblies
   pub empty : IsSettled names (λ ns. id_in ns []) found.empty

@@ -10,7 +10,7 @@ use Rattle.type_names.specs.declared.type_rows.Target.TheVariants as target
 use Rattle.type_names.specs.declared.type_rows.TypeRows.{TypeRows}
 use Rattle.core_types.specs.CoreLibrary.{texts_in_order}
 use Rattle.image_rows.specs.Cells.{rows, rows_of, text}
-use Rattle.core_types.specs.Names.{first_seen, number_in}
+use Rattle.core_types.specs.Names.{first_seen, id_in}
 use Rattle.type_names.specs.Resolution.{def_at, resolved, first_def}
 use Rattle.image_rows.specs.TypeNames.{full_name, name_of_ref}
 
@@ -29,29 +29,38 @@ file_texts files (k, m) =
 unfoldable pub names : List Metadata → List (List ℕ)
 names files = first_seen (texts_in_order ++ [] ∷ [] ++ flat_map (file_texts files) (enumerate_from 0 files))
 
-unfoldable pub name_id : List Metadata → List ℕ → NameId
-name_id files t = record { 0 = number_in (names files) t }
-
--- ---- what the rows of a file are called
+-- ---- what the rows of a file are called, by names that are there
 
 -- what a TypeRef row names: its definition, or its name where that is missing
-abbrev pub target_at : List Metadata → List ℕ → Option DefPlace → Target
-target_at files name (Some place) = target.Def (def_at files place)
-target_at files name None = target.Missing (name_id files name)
+abbrev pub target_in : List (List ℕ) → List Metadata → List ℕ → Option DefPlace → Target
+target_in names files name (Some place) = target.Def (def_at files place)
+target_in names files name None = target.Missing (id_in names name)
 
-abbrev pub target_of : List Metadata → ℕ → Metadata → ℕ → Target
-target_of files k m row = target_at files (name_of_ref m row) (resolved files k m row)
+abbrev pub target_of_in : List (List ℕ) → List Metadata → ℕ → Metadata → ℕ → Target
+target_of_in names files k m row = target_in names files (name_of_ref m row) (resolved files k m row)
 
-unfoldable pub type_rows : List Metadata → ℕ → Metadata → TypeRows
-type_rows files k m = record { first_def = first_def files k; defs = rows m 0x02; refs = map (target_of files k m) (rows_of m 0x01) }
-
-unfoldable pub file_names : List Metadata → ℕ → Metadata → FileNames
-file_names files k m = record {
-  defs = map (λ row. name_id files (full_name m row)) (rows_of m 0x02);
-  types = type_rows files k m;
-  fields = map (λ row. name_id files (text m 0x04 row 1)) (rows_of m 0x04);
-  methods = map (λ row. name_id files (text m 0x06 row 3)) (rows_of m 0x06);
+unfoldable pub type_rows_in : List (List ℕ) → List Metadata → ℕ → Metadata → TypeRows
+type_rows_in names files k m = record {
+  first_def = first_def files k;
+  defs = rows m 0x02;
+  refs = map (target_of_in names files k m) (rows_of m 0x01);
 }
+
+unfoldable pub file_names_in : List (List ℕ) → List Metadata → ℕ → Metadata → FileNames
+file_names_in names files k m = record {
+  defs = map (λ row. id_in names (full_name m row)) (rows_of m 0x02);
+  types = type_rows_in names files k m;
+  fields = map (λ row. id_in names (text m 0x04 row 1)) (rows_of m 0x04);
+  methods = map (λ row. id_in names (text m 0x06 row 3)) (rows_of m 0x06);
+}
+
+-- ---- by the names of the world
+
+abbrev pub type_rows : List Metadata → ℕ → Metadata → TypeRows
+type_rows files = type_rows_in (names files) files
+
+abbrev pub file_names : List Metadata → ℕ → Metadata → FileNames
+file_names files = file_names_in (names files) files
 
 -- of all files
 unfoldable pub all_file_names : List Metadata → List FileNames

@@ -2,7 +2,7 @@
 ghost use Rattle.std.specs.Prelude.{◌≡◌, ◌≤◌, ℕ, List, Some, slice_get};
 ghost use Rattle.cli_tables.specs.Metadata.{Metadata};
 ghost use Rattle.type_names.specs.Assemblies as assemblies;
-ghost use Rattle.type_names.specs.Numbering.{id_in};
+ghost use Rattle.core_types.specs.Names.{id_in};
 ghost use Rattle.type_names.specs.Resolution as resolution;
 ghost use Rattle.type_names.specs.TypeFinders as spec;
 

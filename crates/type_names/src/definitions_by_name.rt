@@ -1,6 +1,7 @@
 //! Types by the definition around them, their namespace and their name.
 ghost use Rattle.std.specs.Prelude.{◌≡◌, ◌+◌, get_or, length, IfOk};
 ghost use Rattle.cli_tables.specs.Layout.{row_count};
+ghost use Rattle.core_types.specs.CoreTable.{core_defs};
 ghost use Rattle.image_rows.specs.Nesting.{enclosing_row};
 ghost use Rattle.type_names.specs.TypeKeys as spec;
 
@@ -56,9 +57,9 @@ pub(crate) fn first_defs(
 
 /// The first place of each name among the core's definitions, which is its number.
 pub(crate) fn first_core_types(alloc: Global, columns: &NameColumns) -> Result<FirstPlaces, Memory>
-    requires namespaces { length columns.now.namespaces ≡ 36 }
-    requires names { length columns.now.names ≡ 36 }
-    ensures { IfOk result (spec.Finds (spec.keys_of (λ i. 0) columns.now 36)) }
+    requires namespaces { length columns.now.namespaces ≡ core_defs }
+    requires names { length columns.now.names ≡ core_defs }
+    ensures { IfOk result (spec.Finds (spec.keys_of (λ i. 0) columns.now core_defs)) }
 {
     let keys = keys(alloc, &[0; DEF_COUNT + 1], columns, DEF_COUNT)?;
     FirstPlaces::new(alloc, keys.as_slice())

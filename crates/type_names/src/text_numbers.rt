@@ -2,26 +2,18 @@
 ghost use Rattle.std.specs.Prelude.{◌≡◌, ◌+◌, ◌<◌, ◌≤◌, length, map, IfOk, OnOk};
 ghost use Rattle.std.specs.Str.{bytes_eq};
 ghost use Rattle.cli_tables.specs.Schema.{columns};
-ghost use Rattle.core_types.specs.Names.{with_one, with_all};
+ghost use Rattle.core_types.specs.Names.{id_in, with_one, with_all};
+ghost use Rattle.image_rows.specs.Cells as cells;
 ghost use Rattle.type_names.specs.Numbering as spec;
 
 use cli_tables::Tables;
 use clr_base::{Memory, NameId};
 use core_types::Names;
+use image_rows::text_by;
 use indexmap::IndexMap;
 use sqlite_items::Items;
 use std::alloc::Global;
 use type_tree::with_room;
-
-/// The text at an index; empty where there is none, which is not so in a file that passes its checks.
-fn text_by<'a>(tables: &Tables<'a>, index: u32) -> &'a str
-    ensures { result.now ≡ spec.text_by tables.now index }
-{
-    match tables.string(index) {
-        Ok(text) => text,
-        Err(_) => "",
-    }
-}
 
 /// The number of the text at an index, which is read and numbered where its number isn't noted yet.
 fn number_at(
@@ -33,8 +25,8 @@ fn number_at(
 ) -> Result<NameId, Memory>
     requires room { length names.old < 4294967295 }
     requires noted { spec.AreNoted tables.now names.old noted.old }
-    ensures names { OnOk result (names.new ≡ with_one bytes_eq names.old (spec.text_by tables.now index)) }
-    ensures number { IfOk result (λ id. id ≡ spec.id_in names.old (spec.text_by tables.now index)) }
+    ensures names { OnOk result (names.new ≡ with_one bytes_eq names.old (cells.text_by tables.now index)) }
+    ensures number { IfOk result (λ id. id ≡ id_in names.old (cells.text_by tables.now index)) }
     ensures noted { OnOk result (spec.AreNoted tables.now names.new noted.new) }
 {
     if let Some(id) = noted.get(&index) {
@@ -57,7 +49,7 @@ pub(crate) fn number_column(
     requires column { column < length (columns table) }
     requires room { length names.old ≤ 4278190080 }
     ensures names { OnOk result (names.new ≡ with_all bytes_eq names.old (spec.column_texts tables.now table column)) }
-    ensures numbers { IfOk result (λ ids. spec.IsSettled names.new (λ ns. map (spec.id_in ns) (spec.column_texts tables.now table column)) ids) }
+    ensures numbers { IfOk result (λ ids. spec.IsSettled names.new (λ ns. map (id_in ns) (spec.column_texts tables.now table column)) ids) }
     ensures few { OnOk result (length names.new ≤ length names.old + 16777215) }
 {
     let count = tables.row_count(table);

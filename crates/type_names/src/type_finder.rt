@@ -31,7 +31,7 @@ impl<'a> TypeFinder<'a> {
     /// The first definition of a file that is called so. Takes constant time.
     pub(crate) fn def_in(&self, file: u32, key: TypeKey) -> Option<DefPlace>
         requires { spec.IsFinder self.now }
-        ensures { (s t : List ℕ) → key ≡ spec.key_in self.now.names key.around s t → result ≡ spec.def_in self.now.files.now file key.around s t }
+        ensures { (s t : List ℕ) → key ≡ spec.key_in self.now.names key.around s t → result ≡ resolution.def_in self.now.files.now file key.around s t }
     {
         match self.defs.get(file as usize) {
             Some(places) => match places.first(key) {

@@ -1,7 +1,9 @@
 //! The numbers of the texts by which types are found: namespaces, names, and the names of assemblies.
 ghost use Rattle.std.specs.Prelude.{◌+◌, ◌<◌, ◌≤◌, length, IfOk, OnOk};
 ghost use Rattle.cli_tables.specs.Schema.{columns};
+ghost use Rattle.core_types.specs.CoreTable.{core_defs};
 ghost use Rattle.type_names.specs.Numbering.{column_texts};
+ghost use Rattle.type_names.specs.Resolution as resolution;
 ghost use Rattle.type_names.specs.TypeTexts as spec;
 
 use crate::core_texts::{ASSEMBLY_COUNT, core_assembly, core_namespace, core_type_name};
@@ -102,7 +104,7 @@ pub(crate) fn file_texts(
 fn core_namespaces(alloc: Global, names: &mut Names) -> Result<Items<NameId>, Memory>
     requires { length names.old ≤ 1000 }
     ensures extends { OnOk result (spec.Extends names.old names.new) }
-    ensures numbers { IfOk result (spec.AreNumbers names.new (spec.in_order spec.core_namespace 36)) }
+    ensures numbers { IfOk result (spec.AreNumbers names.new (spec.in_order resolution.core_namespace core_defs)) }
     ensures few { OnOk result (length names.new ≤ length names.old + 36) }
 {
     let mut ids = Items::new(alloc);
@@ -116,7 +118,7 @@ fn core_namespaces(alloc: Global, names: &mut Names) -> Result<Items<NameId>, Me
 fn core_names(alloc: Global, names: &mut Names) -> Result<Items<NameId>, Memory>
     requires { length names.old ≤ 1000 }
     ensures extends { OnOk result (spec.Extends names.old names.new) }
-    ensures numbers { IfOk result (spec.AreNumbers names.new (spec.in_order spec.core_type_name 36)) }
+    ensures numbers { IfOk result (spec.AreNumbers names.new (spec.in_order resolution.core_type_name core_defs)) }
     ensures few { OnOk result (length names.new ≤ length names.old + 36) }
 {
     let mut ids = Items::new(alloc);

@@ -5,9 +5,10 @@ ghost use Rattle.std.specs.Str.{bytes_eq};
 ghost use Rattle.cli_tables.specs.Layout.{row_count};
 ghost use Rattle.image_rows.specs.Cells.{rows_of};
 ghost use Rattle.core_types.specs.CoreLibrary as library;
-ghost use Rattle.core_types.specs.Names.{with_all};
+ghost use Rattle.core_types.specs.Names.{id_in, with_all};
 ghost use Rattle.type_names.specs.Numbering as numbering;
 ghost use Rattle.image_rows.specs.TypeNames.{full_name, name_of_ref as ref_text};
+ghost use Rattle.type_names.specs.Resolution.{all_places};
 ghost use Rattle.type_names.specs.WorldNames as spec;
 
 use crate::def_numbers::DefNumbers;
@@ -43,7 +44,7 @@ fn number_defs(
 ) -> Result<Items<NameId>, Memory>
     requires { length names.old ≤ 4278190080 }
     ensures names { OnOk result (names.new ≡ with_all bytes_eq names.old (map (full_name tables.now) (rows_of tables.now 2))) }
-    ensures numbers { IfOk result (λ ids. numbering.IsSettled names.new (λ ns. map (numbering.id_in ns) (map (full_name tables.now) (rows_of tables.now 2))) ids) }
+    ensures numbers { IfOk result (λ ids. numbering.IsSettled names.new (λ ns. map (id_in ns) (map (full_name tables.now) (rows_of tables.now 2))) ids) }
     ensures few { OnOk result (length names.new ≤ length names.old + 16777215) }
 {
     let texts = full_names(alloc, tables)?;
@@ -70,7 +71,7 @@ fn target(
     requires room { length names.old < 4294967295 }
     requires placed { IfSome place (numbering.IsPlaced defs.now) }
     ensures names { OnOk result (names.new ≡ with_all bytes_eq names.old (numbering.missing_text (ref_text tables.now row) place)) }
-    ensures target { IfOk result (λ t. numbering.IsSettled names.new (λ ns. numbering.target_in ns defs.now (ref_text tables.now row) place) t) }
+    ensures target { IfOk result (λ t. numbering.IsSettled names.new (λ ns. spec.target_in ns defs.now (ref_text tables.now row) place) t) }
 {
     match place {
         Some(place) => Ok(Target::Def(defs.number(place))),
@@ -91,10 +92,10 @@ fn targets(
     resolved: &[Items<Option<DefPlace>>],
 ) -> Result<Items<Target>, Memory>
     requires file { slice_get defs.now file ≡ Some tables.now }
-    requires resolved { resolved.now ≡ numbering.all_places defs.now }
+    requires resolved { resolved.now ≡ all_places defs.now }
     requires room { length names.old ≤ 4278190080 }
     ensures names { OnOk result (names.new ≡ with_all bytes_eq names.old (map (ref_text tables.now) (spec.missing_refs defs.now file tables.now))) }
-    ensures targets { IfOk result (λ ts. numbering.IsSettled names.new (λ ns. map (numbering.target_of_in ns defs.now file tables.now) (rows_of tables.now 1)) ts) }
+    ensures targets { IfOk result (λ ts. numbering.IsSettled names.new (λ ns. map (spec.target_of_in ns defs.now file tables.now) (rows_of tables.now 1)) ts) }
     ensures few { OnOk result (length names.new ≤ length names.old + 16777215) }
 {
     let places = resolved[file as usize].as_slice();
@@ -118,10 +119,10 @@ fn file_names(
     resolved: &[Items<Option<DefPlace>>],
 ) -> Result<FileNames, Memory>
     requires file { slice_get defs.now file ≡ Some tables.now }
-    requires resolved { resolved.now ≡ numbering.all_places defs.now }
+    requires resolved { resolved.now ≡ all_places defs.now }
     requires room { length names.old ≤ 4227858435 }
     ensures names { OnOk result (names.new ≡ with_all bytes_eq names.old (spec.file_texts defs.now (file, tables.now))) }
-    ensures rows { IfOk result (λ rows. numbering.IsSettled names.new (λ ns. numbering.file_names_in ns defs.now file tables.now) rows) }
+    ensures rows { IfOk result (λ rows. numbering.IsSettled names.new (λ ns. spec.file_names_in ns defs.now file tables.now) rows) }
     ensures few { OnOk result (length names.new ≤ length names.old + 67108860) }
 {
     let def_names = number_defs(alloc, names, tables)?;
@@ -162,7 +163,7 @@ pub fn name_files(
 ) -> Result<WorldNames, Memory>
     requires few { length files.now ≤ 16 }
     requires core { core ≡ library.names }
-    requires resolved { resolved.now ≡ numbering.all_places files.now }
+    requires resolved { resolved.now ≡ all_places files.now }
     ensures names { IfOk result (λ w. w.names ≡ spec.names files.now) }
     ensures files { IfOk result (λ w. w.files ≡ spec.all_file_names files.now) }
 {

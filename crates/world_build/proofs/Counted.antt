@@ -7,8 +7,8 @@ use Rattle.std.proofs.lemmas.List.FromFn.{get_or-range_with_len, length-range_wi
 use Rattle.std.proofs.lemmas.List.Sums.{sum_by-append, sum_by-cons}
 use Rattle.cli_tables.specs.Metadata.{Metadata}
 use Rattle.image_rows.specs.Cells.{rows, rows_of, at, blob}
-use Rattle.world_build.specs.Counts.{too_many, capped, locals_by, local_count, all_locals}
-use Rattle.world_build.specs.Signatures.{listed, locals_in, locals_before}
+use Rattle.world_build.specs.Counts.{too_many, capped, local_count, all_locals}
+use Rattle.world_build.specs.Signatures.{listed, locals_by, locals_in, locals_before}
 
 -- ---- counts that stop
 
@@ -55,7 +55,7 @@ locals_more m n within =
     ap (sum_by f) (one_row m n within) ∙ omega (arith, sum, last)
 
 local_count_of : (m : Metadata) (row index : ℕ) → index ≡ at m 0x11 row 0 → local_count m index ≡ capped (length (listed (locals_in m row)))
-unfolding local_count locals_by locals_in blob
+unfolding local_count
 local_count_of m row index is = ap (λ i. capped (length (listed (locals_by m i)))) is
 
 pub more_locals : (m : Metadata) (n total index count sum : ℕ) → n < rows m 0x11 → total ≡ capped (locals_before m n) → index ≡ at m 0x11 (n + 1) 0

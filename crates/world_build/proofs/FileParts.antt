@@ -21,7 +21,7 @@ use Rattle.type_names.specs.Resolution.{rows_before}
 use Rattle.world_build.specs.Signatures.{file_keys, first_sig, sigs_in}
 use Rattle.type_members.specs.Trees.{AreNumbered}
 use Rattle.world_build.specs.World.{reader, file_defs, file_of, world_file, tables_in}
-use Rattle.type_names.specs.WorldNames.{names, file_names, type_rows}
+use Rattle.type_names.specs.WorldNames.{names, file_names, file_names_in, type_rows, type_rows_in}
 use Rattle.world_build.proofs.FewEnough.{AreBelow, are_below}
 use Rattle.type_members.proofs.FileSums.{length_of_each, of_part, rows_within}
 use Rattle.type_names.proofs.NamesCount.{names_few}
@@ -66,7 +66,7 @@ module _ (files : List Metadata) (few : are_few (totals_of files) ≡ true) wher
     sigs_small = let t = totals in omega (arith, t.sigs, of_part sigs_in files k m there)
 
     pub numbered : (n : FileNames) → n ≡ file_names files k m → AreNumbered n.types
-    unfolding totals_of file_names type_rows
+    unfolding totals_of file_names_in type_rows_in
     numbered n is =
         let t = totals in
         subst (λ (x : FileNames). AreNumbered x.types) (sym is) (omega (arith, t.defs, rows_within files k 0x02 m there))
@@ -92,7 +92,7 @@ module _ (files : List Metadata) (k : ℕ) (m : Metadata) where
   pub reader_is : (ns : List (List ℕ)) (members : MemberTable) (n : FileNames) (first : ℕ) → ns ≡ names files → members ≡ member_table files
       → n ≡ file_names files k m → first ≡ core_methods + rows_before files k 0x06
       → reader_of ns members n.types m first ≡ reader files k m
-  unfolding reader file_names
+  unfolding reader file_names_in
   reader_is ns members n first named owned called own =
       ap (λ (x : List (List ℕ)). reader_of x members n.types m first) named ∙ ap (λ (x : MemberTable). reader_of (names files) x n.types m first) owned
       ∙ ap (λ (x : FileNames). reader_of (names files) (member_table files) x.types m first) called

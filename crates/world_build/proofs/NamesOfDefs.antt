@@ -17,13 +17,13 @@ use Rattle.core_types.specs.CoreLibrary as core
 use Rattle.world_build.specs.DefNames.{names_in}
 use Rattle.type_members.specs.Definitions.{def_of}
 use Rattle.type_members.specs.MemberTable.{of_each, run_of}
-use Rattle.core_types.specs.Names.{number_in}
+use Rattle.core_types.specs.Names.{id_in, number_in}
 use Rattle.world_build.specs.References.{impls_of}
 use Rattle.world_build.specs.Roots.{world_with}
 use Rattle.type_members.specs.Trees.{empty_name}
 use Rattle.image_rows.specs.TypeNames.{full_name}
 use Rattle.world_build.specs.World.{reader, file_defs, tables_in, world}
-use Rattle.type_names.specs.WorldNames.{names, name_id, file_names}
+use Rattle.type_names.specs.WorldNames.{names, file_names, file_names_in}
 use Rattle.type_members.proofs.NamesThere.{is_among, same_text, defs_there}
 
 -- ---- which definitions are a file's
@@ -125,10 +125,10 @@ module _ (files : List (List ℕ)) (k : ℕ) (m : Metadata) (there : slice_get (
   ts = tables_in files
 
   -- the definition of a row has the number of its full name
-  row_name : (row : ℕ) → 1 ≤ row → row < 1 + rows m 0x02 → get_or (file_names ts k m).defs (row - 1) empty_name ≡ name_id ts (full_name m row)
-  unfolding file_names
+  row_name : (row : ℕ) → 1 ≤ row → row < 1 + rows m 0x02 → get_or (file_names ts k m).defs (row - 1) empty_name ≡ id_in (names ts) (full_name m row)
+  unfolding file_names_in
   row_name row first last =
-      get_or-map-range_with_len (λ r. name_id ts (full_name m r)) 1 (rows m 0x02) (row - 1) row empty_name (omega arith) (omega arith)
+      get_or-map-range_with_len (λ r. id_in (names ts) (full_name m r)) 1 (rows m 0x02) (row - 1) row empty_name (omega arith) (omega arith)
 
   named : (row : ℕ) → 1 ≤ row → row < 1 + rows m 0x02 → is_among (names ts) (full_name m row) ≡ true
   named row first last =
@@ -139,7 +139,7 @@ module _ (files : List (List ℕ)) (k : ℕ) (m : Metadata) (there : slice_get (
 
   row_text : (row : ℕ) → 1 ≤ row → row < 1 + rows m 0x02
       → name_text (world files) (get_or (file_names ts k m).defs (row - 1) empty_name) ≡ full_name m row
-  unfolding world name_text name_id
+  unfolding world name_text
   row_text row first last =
       ap (name_text (world files)) (row_name row first last)
       ∙ ap (λ (o : Option (List ℕ)). unwrap_or o []) (text_at_number (names ts) (full_name m row) (named row first last))

@@ -10,21 +10,20 @@ use Rattle.cli_sigs.specs.declared.signature.SigTy.{SigTy}
 use Rattle.cli_sigs.specs.declared.signature.SigTy.TheVariants as sig
 use Rattle.cli_sigs.specs.Signatures.{placed, field_at, member_at}
 use Rattle.cli_tables.specs.declared.schema.CodedIndex.TheVariants.{MemberRefParent}
-use Rattle.cli_tables.specs.Heaps.{text_at, blob_at}
 use Rattle.indexmap.specs.IndexMap.{IndexMap}
 use Rattle.type_tree.specs.declared.parts.Member.{Member}
 use Rattle.type_tree.specs.declared.parts.Member.TheVariants.{Lost}
 use Rattle.type_tree.specs.declared.tree.Ty.{Ty}
 use Rattle.type_tree.specs.Kinds.{head}
 use Rattle.world_build.specs.declared.member_refs.RefCells.{RefCells}
-use Rattle.image_rows.specs.Cells.{at, rows, text, blob, coded, text_or_none}
+use Rattle.image_rows.specs.Cells.{at, rows, text, text_by, blob, blob_by, coded}
 use Rattle.world_build.specs.MemberRefs.{AreNoted, cells_of, members_of_refs, noted_at, same_cells}
 use Rattle.type_members.specs.MemberTable.{open_of, own_field, own_method}
 use Rattle.type_members.specs.Members.{no_method}
-use Rattle.core_types.specs.Names.{number_in}
-use Rattle.world_build.specs.References.{Reader, field_member, member_ref, method_member, parent_type, ref_blob, ref_field_sig, ref_member, ref_method_sig, ref_name_id, ref_owner}
+use Rattle.core_types.specs.Names.{id_in}
+use Rattle.world_build.specs.References.{Reader, field_member, member_ref, method_member, ref_blob, ref_field_sig, ref_member, ref_method_sig, ref_name_id, ref_owner}
 use Rattle.image_rows.specs.Blobs.{begins_with, row_counts, value_or}
-use Rattle.type_members.specs.Trees.{tree}
+use Rattle.type_members.specs.Trees.{tree, type_at_row}
 use Rattle.clr_base.proofs.ListFacts.{both, choose}
 
 module _ (w : Reader) where
@@ -37,15 +36,15 @@ module _ (w : Reader) where
   module _ (a b : ℕ) where
     same_owner : at w.tables 0x0A a 0 ≡ at w.tables 0x0A b 0 → ref_owner w a ≡ ref_owner w b
     unfolding ref_owner
-    same_owner e = ap (λ (c : ℕ). parent_type w (coded MemberRefParent c)) e
+    same_owner e = ap (λ (c : ℕ). type_at_row w.types w.tables (coded MemberRefParent c)) e
 
     same_name : at w.tables 0x0A a 1 ≡ at w.tables 0x0A b 1 → ref_name_id w a ≡ ref_name_id w b
     unfolding ref_name_id text
-    same_name e = ap (λ (n : ℕ). let id : NameId = record { 0 = number_in w.names (text_or_none (text_at w.tables.strings n)) } in id) e
+    same_name e = ap (λ (n : ℕ). id_in w.names (text_by w.tables n)) e
 
     same_blob : at w.tables 0x0A a 2 ≡ at w.tables 0x0A b 2 → ref_blob w.tables a ≡ ref_blob w.tables b
     unfolding blob
-    same_blob e = ap (λ (s : ℕ). unwrap_or (blob_at w.tables.blobs s) []) e
+    same_blob e = ap (blob_by w.tables) e
 
     same_field : ref_blob w.tables a ≡ ref_blob w.tables b → ref_field_sig w.tables a ≡ ref_field_sig w.tables b
     unfolding ref_field_sig

@@ -17,7 +17,7 @@ use Rattle.image_rows.specs.declared.cells.RowOf.{RowOf}
 use Rattle.image_rows.specs.Blobs.{begins_with}
 use Rattle.image_rows.specs.Cells.{rows, at, coded, loose, owner_of, rows_with}
 use Rattle.type_members.specs.MemberTable.{open_of, own_method, own_field}
-use Rattle.world_build.specs.References.{Reader, parent_type, ref_owner, ref_blob, ref_name_id, ref_field_sig, ref_method_sig, field_member, method_member, member_ref, def_member, ref_member, named_member, owner_type, named_owner, method_only, spec_row, spec_args, spec_method, method_spec, spec_key_at, spec_key, impl_member, impl_of, impls_of}
+use Rattle.world_build.specs.References.{Reader, ref_owner, ref_blob, ref_name_id, ref_field_sig, ref_method_sig, field_member, method_member, member_ref, def_member, ref_member, named_member, owner_type, named_owner, method_only, spec_row, spec_args, spec_method, method_spec, spec_key_at, spec_key, impl_member, impl_of, impls_of}
 use Rattle.type_members.specs.Trees.{tree}
 use Rattle.clr_base.proofs.ListFacts.{choose, all_of_map, both}
 use Rattle.type_members.proofs.MembersFit.{own_method_within, own_field_within}
@@ -39,17 +39,9 @@ module _ (c : Counts) (w : Reader) (ok : ReaderFits c w) where
 
   -- ---- MemberRef
 
-  parent_fits : (r : Option RowOf) → fits c (parent_type w r) ≡ true
-  parent_fits None = nothing_fits c w.types ok.types false
-  parent_fits (Some r) =
-      choose (λ t. fits c t ≡ true) (r.table == 0x02) _ _ (λ _. type_at_row_fits c w.types ok.types w.tables (Some r))
-      (λ _. choose (λ t. fits c t ≡ true) (r.table == 0x01) _ _ (λ _. type_at_row_fits c w.types ok.types w.tables (Some r))
-      (λ _. choose (λ t. fits c t ≡ true) (r.table == 0x1B) _ _ (λ _. type_at_row_fits c w.types ok.types w.tables (Some r))
-      (λ _. nothing_fits c w.types ok.types false)))
-
   pub ref_owner_fits : (row : ℕ) → fits c (ref_owner w row) ≡ true
   unfolding ref_owner
-  ref_owner_fits row = parent_fits (coded MemberRefParent (at w.tables 0x0A row 0))
+  ref_owner_fits row = type_at_row_fits c w.types ok.types w.tables (coded MemberRefParent (at w.tables 0x0A row 0))
 
   field_found : (d : Option ℕ) (row : ℕ) (o : Option FieldId)
       → option_and_then (λ d. own_field w.members d (ref_name_id w row) (tree w.types (ref_field_sig w.tables row))) d ≡ o

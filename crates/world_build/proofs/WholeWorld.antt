@@ -27,7 +27,7 @@ use Rattle.type_members.specs.MemberTable.{of_each, member_table, run_of}
 use Rattle.type_members.specs.Members.{file_methods, file_fields}
 use Rattle.world_build.specs.References.{member_ref, method_spec, impls_of}
 use Rattle.type_names.specs.Resolution.{rows_before}
-use Rattle.world_build.specs.Signatures.{well_known, locals_in, listed, file_keys, row_sigs, locals_before, sigs_in, first_sig, run_at, locals_of}
+use Rattle.world_build.specs.Signatures.{well_known, locals_in, listed, file_keys, row_sigs, locals_before, sigs_in, first_sig, locals_run, locals_of}
 use Rattle.world_build.specs.World.{reader, file_defs, file_of, world_file, of_bytes, tables_in, no_body, world}
 use Rattle.type_names.specs.WorldNames.{names, file_names}
 use Rattle.world_build.proofs.BodiesFit.{body_fits}
@@ -94,9 +94,9 @@ run_good c m first n (Some ts) within = le-leb _ _ within
 locals_good : (c : Counts) (m : Metadata) (first : ℕ) → first + sigs_in m ≤ c.sigs → lists_fit c (locals_of m first) ≡ true
 unfolding locals_of sigs_in
 locals_good c m first within =
-    all_enumerated (locals_fit c) (run_at m first) 0 (rows_of m 0x11)
+    all_enumerated (locals_fit c) (locals_run m first) 0 (rows_of m 0x11)
     (λ n row e. let here : 0 + n ≡ n = omega arith in
-    subst (λ (k : ℕ). locals_fit c (run_at m first (k, row)) ≡ true) (sym here)
+    subst (λ (k : ℕ). locals_fit c (locals_run m first (k, row)) ≡ true) (sym here)
     (run_good c m first n (locals_in m row) (omega (arith, within, listed_within m n row e))))
 
 -- ---- the whole

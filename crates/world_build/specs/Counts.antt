@@ -1,18 +1,15 @@
 -- How many definitions, methods, fields and signatures files may give a world, so that tokens can number them.
-use Rattle.std.specs.Prelude.{ℕ, ◌+◌, ◌&&◌, List, [], ◌∷◌, length, min, Bool, nat_le, Option, None, Some, if◌then◌else◌}
+use Rattle.std.specs.Prelude.{ℕ, ◌+◌, ◌&&◌, List, [], ◌∷◌, length, min, Bool, nat_le}
 use Rattle.std.specs.List.{sum_by}
 use Rattle.clr_base.specs.declared.image_fault.FaultKind.TheVariants.{TooMany}
 use Rattle.clr_base.specs.Checks.{Check, check}
-use Rattle.cli_sigs.specs.declared.signature.SigTy.{SigTy}
-use Rattle.cli_sigs.specs.Signatures.{placed, locals_at}
 use Rattle.cli_tables.specs.Metadata.{Metadata}
 use Rattle.type_tree.specs.Whole.{most}
 use Rattle.world_build.specs.declared.counts.Totals.{Totals}
 use Rattle.core_types.specs.CoreTable.{core_defs, core_methods}
 use Rattle.image_rows.specs.Cells.{rows}
 use Rattle.image_rows.specs.Rows.{token}
-use Rattle.world_build.specs.Signatures.{listed, locals_before, sigs_in}
-use Rattle.image_rows.specs.Blobs.{begins_with, blob_by, row_counts, value_or}
+use Rattle.world_build.specs.Signatures.{listed, locals_before, locals_by, sigs_in}
 
 -- those of the core library and of some files; of signatures the core has three
 unfoldable pub totals_of : List Metadata → Totals
@@ -47,12 +44,7 @@ too_many = most + 1
 abbrev pub capped : ℕ → ℕ
 capped n = min n too_many
 
--- the local variables that the blob at an index lists, none where it doesn't begin with 07
-unfoldable pub locals_by : Metadata → ℕ → Option (List SigTy)
-locals_by m index =
-    if begins_with 0x07 (blob_by m index) then Some (value_or [] (placed (blob_by m index) (locals_at (row_counts m) (blob_by m index)))) else None
-
--- how many they are, up to one too many
+-- how many local variables the blob at an index lists, up to one too many
 unfoldable pub local_count : Metadata → ℕ → ℕ
 local_count m index = capped (length (listed (locals_by m index)))
 

@@ -23,7 +23,7 @@ use Rattle.type_names.specs.declared.type_rows.TypeRows.{TypeRows}
 use Rattle.image_rows.specs.Cells.{rows, at, text, blob, coded, loose, owner_of, rows_with}
 use Rattle.type_members.specs.MemberTable.{open_of, own_method, own_field}
 use Rattle.type_members.specs.Members.{no_method}
-use Rattle.core_types.specs.Names.{number_in}
+use Rattle.core_types.specs.Names.{id_in}
 use Rattle.image_rows.specs.Blobs.{begins_with, row_counts, value_or}
 use Rattle.type_members.specs.Trees.{tree, trees, type_at_row, def_type, nothing}
 
@@ -38,17 +38,9 @@ pub record Reader : Type 0 where
 
 -- ---- MemberRef
 
--- the type that owns the member: the missing type without a name for a parent that is a method or a module
-abbrev pub parent_type : Reader → Option RowOf → Ty
-parent_type w None = nothing false
-parent_type w (Some r) =
-    if r.table == 0x02 then type_at_row w.types w.tables (Some r)
-    else if r.table == 0x01 then type_at_row w.types w.tables (Some r)
-    else if r.table == 0x1B then type_at_row w.types w.tables (Some r)
-    else nothing false
-
+-- the type that owns the member: the missing type without a name where the parent is a method or a module
 unfoldable pub ref_owner : Reader → ℕ → Ty
-ref_owner w row = parent_type w (coded MemberRefParent (at w.tables 0x0A row 0))
+ref_owner w row = type_at_row w.types w.tables (coded MemberRefParent (at w.tables 0x0A row 0))
 
 abbrev pub ref_blob : Metadata → ℕ → List ℕ
 ref_blob m row = blob m 0x0A row 2
@@ -61,7 +53,7 @@ ref_field_sig m row = value_or (sig.Odd 0) (placed (ref_blob m row) (field_at (r
 
 -- the name of the member; one that no row has is no name of the world, and finds nothing
 unfoldable pub ref_name_id : Reader → ℕ → NameId
-ref_name_id w row = record { 0 = number_in w.names (text w.tables 0x0A row 1) }
+ref_name_id w row = id_in w.names (text w.tables 0x0A row 1)
 
 abbrev pub field_member : Option FieldId → Member
 field_member None = member.Lost

@@ -1,5 +1,5 @@
 -- The signatures of a world, in their order, and where those of a file stand.
-use Rattle.std.specs.Prelude.{ℕ, ◌+◌, ◌*◌, List, [], ◌∷◌, ◌++◌, map, length, sum_by, take, Option, None, Some, if◌then◌else◌}
+use Rattle.std.specs.Prelude.{ℕ, ◌+◌, ◌*◌, List, [], ◌∷◌, ◌++◌, map, length, sum_by, take, Option, None, Some, unwrap_or, if◌then◌else◌}
 use Rattle.std.specs.Option.{option_map}
 use Rattle.std.specs.List.{flat_map, enumerate_from}
 use Rattle.cli_sigs.specs.declared.signature.SigTy.{SigTy}
@@ -13,7 +13,7 @@ use Rattle.type_tree.specs.declared.tree.Ty.TheVariants as ty
 use Rattle.core_types.specs.declared.core_type.CoreType.TheVariants.{String, TypeObject}
 use Rattle.type_names.specs.declared.type_rows.TypeRows.{TypeRows}
 use Rattle.core_types.specs.CoreLibrary.{plain}
-use Rattle.image_rows.specs.Cells.{rows, rows_of, blob, owner_of}
+use Rattle.image_rows.specs.Cells.{at, blob_by, owner_of, rows, rows_of}
 use Rattle.image_rows.specs.Blobs.{begins_with, row_counts, value_or}
 use Rattle.type_members.specs.Trees.{tree, type_at_row}
 use Rattle.world_build.specs.References.{Reader, owner_type, ref_owner, spec_key}
@@ -43,15 +43,17 @@ member_keys w =
     ++ map (λ row. Tree (ref_owner w row)) (rows_of w.tables 0x0A)
     ++ map (spec_key w) (rows_of w.tables 0x2B)
 
--- the types of the local variables that a StandAloneSig row lists (II.23.2.6), none where its blob doesn't begin with 07
-unfoldable pub locals_in : Metadata → ℕ → Option (List SigTy)
-locals_in m row =
-    if begins_with 0x07 (blob m 0x11 row 0) then Some (value_or [] (placed (blob m 0x11 row 0) (locals_at (row_counts m) (blob m 0x11 row 0))))
-    else None
+-- the types of the local variables that the blob at an index lists (II.23.2.6), none where it doesn't begin with 07
+unfoldable pub locals_by : Metadata → ℕ → Option (List SigTy)
+locals_by m index =
+    if begins_with 0x07 (blob_by m index) then Some (value_or [] (placed (blob_by m index) (locals_at (row_counts m) (blob_by m index)))) else None
+
+-- those of a StandAloneSig row
+abbrev pub locals_in : Metadata → ℕ → Option (List SigTy)
+locals_in m row = locals_by m (at m 0x11 row 0)
 
 abbrev pub listed : Option (List SigTy) → List SigTy
-listed None = []
-listed (Some ts) = ts
+listed ts = unwrap_or ts []
 
 unfoldable pub local_keys : TypeRows → Metadata → List Key
 local_keys s m = flat_map (λ row. map (λ t. Tree (tree s t)) (listed (locals_in m row))) (rows_of m 0x11)
@@ -80,9 +82,9 @@ unfoldable pub first_sig : List Metadata → ℕ → ℕ
 first_sig files k = 3 + sum_by sigs_in (take k files)
 
 -- the local variables of a StandAloneSig row, given with how many rows stand before it, where the file's signatures begin at a number
-abbrev pub run_at : Metadata → ℕ → ℕ × ℕ → Option Locals
-run_at m first (n, row) =
+abbrev pub locals_run : Metadata → ℕ → ℕ × ℕ → Option Locals
+locals_run m first (n, row) =
     option_map (λ ts. record { first = record { 0 = first + row_sigs m + locals_before m n }; count = length ts }) (locals_in m row)
 
 unfoldable pub locals_of : Metadata → ℕ → List (Option Locals)
-locals_of m first = map (run_at m first) (enumerate_from 0 (rows_of m 0x11))
+locals_of m first = map (locals_run m first) (enumerate_from 0 (rows_of m 0x11))

@@ -4,17 +4,14 @@ ghost use Rattle.clr_base.specs.Checks.{outcome};
 ghost use Rattle.world_build.specs.Counts as spec;
 ghost use Rattle.image_rows.specs.Refusals.{GivesOutcome};
 ghost use Rattle.image_rows.specs.SignatureChecks.{AreNotes};
-ghost use Rattle.world_build.specs.Signatures as sigs;
 
-use cli_sigs::{SigTyList, read_locals};
+use crate::local_signatures::locals_by;
+use crate::row_signatures::row_sigs;
 use cli_tables::Tables;
 use clr_base::{FaultKind, Memory, check};
-use image_rows::{
-    FIELD, LOCALS_CODE, MEMBER_REF, METHOD_DEF, METHOD_SPEC, Refusal, STAND_ALONE_SIG, TYPE_DEF,
-    TYPE_REF, TYPE_SPEC, begins_with, blob_by, row_counts, token, value_or,
-};
+use core_types::{DEF_COUNT, METHOD_COUNT};
+use image_rows::{FIELD, METHOD_DEF, Refusal, STAND_ALONE_SIG, TYPE_DEF, token};
 use indexmap::IndexMap;
-use sqlite_items::Items;
 use std::alloc::Global;
 
 /// The most that tokens can number (ECMA-335 III.1.9: a token has 24 bits for a row).
@@ -29,23 +26,7 @@ pub struct Totals {
     pub sigs: u32,
 }
 
-/// The local variables that the blob at an index lists (II.23.2.6), none where it doesn't begin with their code.
-#[tactic(auto, unfolding(crate::specs::Counts::locals_by))]
-fn locals_by(alloc: Global, tables: &Tables<'_>, index: u32) -> Result<SigTyList, Memory>
-    ensures { IfOk result (λ locals. locals ≡ sigs.listed (spec.locals_by tables.now index)) }
-{
-    let blob = blob_by(tables, index);
-    if begins_with(LOCALS_CODE, blob) {
-        value_or(
-            read_locals(alloc, blob, &row_counts(tables)),
-            Items::new(alloc),
-        )
-    } else {
-        Ok(Items::new(alloc))
-    }
-}
-
-/// How many they are, up to one too many. They are counted where that isn't noted yet.
+/// How many local variables the blob at an index lists, up to one too many. They are counted where that isn't noted yet.
 #[tactic(auto, unfolding(crate::specs::Counts::local_count))]
 fn local_count(
     alloc: Global,
@@ -60,7 +41,10 @@ fn local_count(
     if let Some(count) = noted.get(&index) {
         return Ok(*count);
     }
-    let len = locals_by(alloc, tables, index)?.len();
+    let len = match locals_by(alloc, tables, index)? {
+        Some(locals) => locals.len(),
+        None => 0,
+    };
     let count = len.min(MOST as usize + 1) as u32;
     noted.insert(index, count)?;
     Ok(count)
@@ -81,22 +65,6 @@ fn all_locals(alloc: Global, tables: &Tables<'_>) -> Result<u32, Memory>
     Ok(total)
 }
 
-/// How many signatures the rows of a file have, before the local variables: two a type, one a member.
-#[tactic(auto, unfolding(crate::specs::Signatures::row_sigs))]
-pub(crate) fn row_sigs(tables: &Tables<'_>) -> u32
-    ensures exact { result ≡ sigs.row_sigs tables.now }
-    ensures few { result ≤ 167772150 }
-{
-    let types = tables.row_count(TYPE_DEF)
-        + tables.row_count(TYPE_REF)
-        + tables.row_count(TYPE_SPEC);
-    let members = tables.row_count(FIELD)
-        + tables.row_count(METHOD_DEF)
-        + tables.row_count(MEMBER_REF)
-        + tables.row_count(METHOD_SPEC);
-    2 * types + members
-}
-
 impl Totals {
     /// Those of the core library, which has no fields.
     #[tactic(auto, unfolding(crate::specs::Counts::totals_of, crate::specs::Counts::are_few))]
@@ -105,8 +73,8 @@ impl Totals {
         ensures few { spec.are_few result ≡ true }
     {
         Totals {
-            defs: 36,
-            methods: 98,
+            defs: DEF_COUNT as u32,
+            methods: METHOD_COUNT as u32,
             fields: 0,
             sigs: 3,
         }

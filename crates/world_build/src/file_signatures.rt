@@ -8,12 +8,11 @@ ghost use Rattle.world_build.specs.References as references;
 ghost use Rattle.world_build.specs.Signatures as spec;
 ghost use Rattle.type_members.specs.Trees.{AreNumbered};
 
-use crate::counts::row_sigs;
 use crate::local_signatures::push_locals;
 use crate::method_specs::spec_key;
 use crate::reader::Reader;
 use crate::references::ref_owner;
-use crate::row_signatures::{push_arrays, push_owners, push_types};
+use crate::row_signatures::{push_arrays, push_owners, push_types, row_sigs};
 use cli_tables::Tables;
 use clr_base::Memory;
 use image_rows::{

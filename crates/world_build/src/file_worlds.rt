@@ -22,11 +22,11 @@ use crate::member_refs::members_of_refs;
 use crate::reader::Reader;
 use cli_tables::Tables;
 use clr_base::Memory;
-use core_types::Names;
+use core_types::{METHOD_COUNT, Names};
 use image_rows::{FIELD, METHOD_DEF};
 use sqlite_items::Items;
 use std::alloc::Global;
-use type_members::{CORE_METHOD_COUNT, MemberIndex, MemberTable};
+use type_members::{MemberIndex, MemberTable};
 use type_names::FileNames;
 use type_tree::{BodyPlace, Def, KeyList, WorldFile};
 
@@ -70,7 +70,7 @@ fn push_file(
     let firsts = Firsts {
         sig: parts.sigs.len() as u32,
         field: before.fields,
-        method: CORE_METHOD_COUNT + before.methods,
+        method: METHOD_COUNT as u32 + before.methods,
     };
     let refs = members_of_refs(alloc, reader)?;
     push_definitions(
@@ -124,7 +124,7 @@ pub fn push_files(
     for file in 0..tables.len() {
         let own = &tables[file];
         let called = &called[file];
-        let first_method = CORE_METHOD_COUNT + before.methods;
+        let first_method = METHOD_COUNT as u32 + before.methods;
         let types = &called.types;
         let reader = Reader::new(alloc, names, members, index, types, own, first_method)?;
         let bytes = files[file].as_slice();

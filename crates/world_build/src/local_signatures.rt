@@ -9,25 +9,27 @@ ghost use Rattle.type_members.specs.Trees.{AreNumbered, tree as tree_of};
 use cli_sigs::{SigTyList, read_locals};
 use cli_tables::Tables;
 use clr_base::{Memory, SigId};
-use image_rows::{LOCALS_CODE, STAND_ALONE_SIG, begins_with, blob, row_counts, value_or};
+use image_rows::{LOCALS_CODE, STAND_ALONE_SIG, begins_with, blob_by, row_counts, value_or};
 use sqlite_items::Items;
 use std::alloc::Global;
 use type_members::tree;
 use type_names::TypeRows;
 use type_tree::{Key, KeyList, Locals};
 
-/// The types that a row lists, none where its blob doesn't begin with 07.
-#[tactic(auto, unfolding(crate::specs::Signatures::locals_in, cli_tables::specs::Schema::columns))]
-fn locals_in(alloc: Global, tables: &Tables<'_>, row: u32) -> Result<Option<SigTyList>, Memory>
-    requires first { 1 ≤ row }
-    requires last { row ≤ row_count tables.now.tables 0x11 }
-    ensures { IfOk result (λ listed. listed ≡ spec.locals_in tables.now row) }
+/// The types that the blob at an index lists, none where it doesn't begin with 07.
+#[tactic(auto, unfolding(crate::specs::Signatures::locals_by))]
+pub fn locals_by(
+    alloc: Global,
+    tables: &Tables<'_>,
+    index: u32,
+) -> Result<Option<SigTyList>, Memory>
+    ensures { IfOk result (λ listed. listed ≡ spec.locals_by tables.now index) }
 {
-    let bytes = blob(tables, STAND_ALONE_SIG, row, 0);
-    if !begins_with(LOCALS_CODE, bytes) {
+    let blob = blob_by(tables, index);
+    if !begins_with(LOCALS_CODE, blob) {
         return Ok(None);
     }
-    let read = read_locals(alloc, bytes, &row_counts(tables));
+    let read = read_locals(alloc, blob, &row_counts(tables));
     Ok(Some(value_or(read, Items::new(alloc))?))
 }
 
@@ -48,6 +50,7 @@ fn push_trees(
 }
 
 /// Appends the local variables of a row, and tells where they stand, the first having a number.
+#[tactic(auto, unfolding(cli_tables::specs::Schema::columns))]
 fn push_row(
     alloc: Global,
     types: &TypeRows,
@@ -63,7 +66,8 @@ fn push_row(
     ensures keys { OnOk result (keys.new ≡ keys.old ++ map (λ t. key.Tree (tree_of types.now t)) (spec.listed (spec.locals_in tables.now row))) }
     ensures place { IfOk result (λ place. place ≡ option_map (λ ts. record { first = record { 0 = first }; count = length ts }) (spec.locals_in tables.now row)) }
 {
-    let Some(listed) = locals_in(alloc, tables, row)? else {
+    let index = tables.cell(STAND_ALONE_SIG, row, 0);
+    let Some(listed) = locals_by(alloc, tables, index)? else {
         return Ok(None);
     };
     push_trees(alloc, types, &listed, keys)?;

@@ -3,7 +3,7 @@ ghost use Rattle.std.specs.Prelude.{◌≡◌, ◌+◌, ◌-◌, ◌≤◌, IfOk
 ghost use Rattle.cli_tables.specs.Layout.{row_count};
 ghost use Rattle.image_rows.specs.Cells.{owner_of};
 ghost use Rattle.type_members.specs.MemberTable as table;
-ghost use Rattle.core_types.specs.Names.{number_in};
+ghost use Rattle.core_types.specs.Names.{id_in};
 ghost use Rattle.world_build.specs.Readers.{CanRead};
 ghost use Rattle.type_members.specs.Trees.{AreNumbered};
 
@@ -91,7 +91,7 @@ impl<'a, 'f> Reader<'a, 'f> {
 
     /// The number of a name, which is how many names the world has where it isn't among them.
     pub(crate) fn name(&self, text: &str) -> NameId
-        ensures { result ≡ record { 0 = number_in self.now.names text.now } }
+        ensures { result ≡ id_in self.now.names text.now }
     {
         self.names.find(text)
     }

@@ -8,12 +8,9 @@ use crate::reader::Reader;
 use cli_sigs::{SigMethod, SigTy, read_field, read_method};
 use cli_tables::{CodedIndex, Tables};
 use clr_base::{FieldId, Memory, MethId, NameId};
-use image_rows::{
-    FIELD_CODE, MEMBER_REF, RowOf, TYPE_DEF, TYPE_REF, TYPE_SPEC, begins_with, blob, coded,
-    row_counts, text, value_or,
-};
+use image_rows::{FIELD_CODE, MEMBER_REF, begins_with, blob, coded, row_counts, text, value_or};
 use std::alloc::Global;
-use type_members::{no_method, nothing, open_of, tree, type_at_row};
+use type_members::{no_method, open_of, tree, type_at_row};
 use type_tree::{Member, Ty};
 
 /// The columns of MemberRef: Class, Name and Signature.
@@ -23,20 +20,7 @@ pub const NAME: u8 = 1;
 
 pub const SIGNATURE: u8 = 2;
 
-/// The type that owns a member, by the row that is its parent: the missing type without a name where that is a method or a
-/// module.
-fn parent_type(alloc: Global, reader: &Reader<'_, '_>, parent: Option<RowOf>) -> Result<Ty, Memory>
-    ensures { IfOk result (λ t. t ≡ spec.parent_type reader.now parent) }
-{
-    match parent {
-        Some(row) if row.table == TYPE_DEF || row.table == TYPE_REF || row.table == TYPE_SPEC => {
-            type_at_row(alloc, reader.types(), reader.tables(), parent)
-        }
-        _ => Ok(nothing(false)),
-    }
-}
-
-/// The type that owns the member in a MemberRef row.
+/// The type that owns the member in a MemberRef row: the missing type without a name where its parent is a method or a module.
 #[tactic(auto, unfolding(crate::specs::References::ref_owner, cli_tables::specs::Schema::columns))]
 pub fn ref_owner(alloc: Global, reader: &Reader<'_, '_>, row: u32) -> Result<Ty, Memory>
     requires first { 1 ≤ row }
@@ -44,7 +28,8 @@ pub fn ref_owner(alloc: Global, reader: &Reader<'_, '_>, row: u32) -> Result<Ty,
     ensures { IfOk result (λ t. t ≡ spec.ref_owner reader.now row) }
 {
     let class = reader.tables().cell(MEMBER_REF, row, CLASS);
-    parent_type(alloc, reader, coded(CodedIndex::MemberRefParent, class))
+    let parent = coded(CodedIndex::MemberRefParent, class);
+    type_at_row(alloc, reader.types(), reader.tables(), parent)
 }
 
 /// What the blob of a MemberRef row says, read as the signature of a method.

@@ -6,8 +6,8 @@ ghost use Rattle.world_build.specs.Images.{bytes_of_each};
 ghost use Rattle.world_build.specs.Signatures as signatures;
 ghost use Rattle.world_build.specs.World as spec;
 
-use crate::counts::row_sigs;
 use crate::file_worlds::{Growing, push_files};
+use crate::row_signatures::row_sigs;
 use cli_tables::Tables;
 use clr_base::Memory;
 use core_types::{CoreType, core_library, plain};

@@ -1,8 +1,7 @@
 use Rattle.std.proofs.Common.{ℕ, ◌∙◌, ap, arith}
 use Rattle.std.specs.Str.{bytes_eq}
-use Rattle.image_rows.specs.Cells.{text}
-use Rattle.core_types.specs.Names.{with_one}
-use Rattle.type_names.specs.Numbering.{id_in, text_by}
+use Rattle.image_rows.specs.Cells.{text, text_by}
+use Rattle.core_types.specs.Names.{with_one, id_in}
 use Rattle.type_names.proofs.Numbered.{names_more, ids_more, names_few}
 use Rattle.type_names.proofs.text_numbers.number_column.Goals as goal
 

@@ -2,8 +2,8 @@ use Rattle.std.proofs.Common.{◌≡◌, map}
 use Rattle.std.specs.List.{range_with_len}
 use Rattle.std.specs.Str.{bytes_eq}
 use Rattle.image_rows.specs.Cells.{text}
-use Rattle.core_types.specs.Names.{with_all}
-use Rattle.type_names.specs.Numbering.{id_in, IsSettled, AreNoted}
+use Rattle.core_types.specs.Names.{with_all, id_in}
+use Rattle.type_names.specs.Numbering.{IsSettled, AreNoted}
 use Rattle.type_names.proofs.text_numbers.number_column.Given as goal
 
 abbrev pub invariant-loop-row : goal.invariant-loop-row

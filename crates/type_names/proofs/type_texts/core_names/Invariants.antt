@@ -1,4 +1,4 @@
-use Rattle.type_names.specs.TypeTexts.{core_type_name}
+use Rattle.type_names.specs.Resolution.{core_type_name}
 use Rattle.type_names.proofs.TextNumbers.{AreFirst}
 use Rattle.type_names.proofs.type_texts.core_names.Given as goal
 

@@ -1,5 +1,5 @@
 use Rattle.std.proofs.Common.{◌≡◌, arith}
-use Rattle.type_names.specs.TypeTexts.{core_namespace}
+use Rattle.type_names.specs.Resolution.{core_namespace}
 use Rattle.type_names.proofs.TextNumbers.{first_none, first_more, first_few, first_extends, first_numbers}
 use Rattle.type_names.proofs.type_texts.core_namespaces.Goals as goal
 

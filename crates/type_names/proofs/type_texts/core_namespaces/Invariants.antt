@@ -1,4 +1,4 @@
-use Rattle.type_names.specs.TypeTexts.{core_namespace}
+use Rattle.type_names.specs.Resolution.{core_namespace}
 use Rattle.type_names.proofs.TextNumbers.{AreFirst}
 use Rattle.type_names.proofs.type_texts.core_namespaces.Given as goal
 

@@ -1,5 +1,6 @@
 use Rattle.std.proofs.Common.{[], ◌∷◌}
-use Rattle.type_names.specs.TypeTexts.{core_namespace, core_type_name, core_assembly, in_order}
+use Rattle.type_names.specs.TypeTexts.{core_assembly, in_order}
+use Rattle.type_names.specs.Resolution.{core_namespace, core_type_name}
 use Rattle.type_names.proofs.TextNumbers.{extends_by, extends_on, numbers_on, empty_numbered}
 use Rattle.type_names.proofs.type_texts.core_texts.Goals as goal
 

@@ -4,8 +4,8 @@ use Rattle.std.specs.Str.{bytes_eq}
 use Rattle.std.proofs.lemmas.Option.{slice_get_read}
 use Rattle.cli_tables.specs.Metadata.{Metadata}
 use Rattle.core_types.specs.Names.{with_all, with_one}
-use Rattle.type_names.specs.Numbering.{IsSettled, file_names_in}
-use Rattle.type_names.specs.WorldNames.{file_texts}
+use Rattle.type_names.specs.Numbering.{IsSettled}
+use Rattle.type_names.specs.WorldNames.{file_texts, file_names_in}
 use Rattle.type_names.proofs.FileRows.{begun_few, core_count, names_all, names_file, rows_all, rows_file}
 use Rattle.type_names.proofs.world_names.name_files.Goals as goal
 

@@ -2,8 +2,8 @@ use Rattle.std.proofs.Common.{◌≡◌, ◌+◌, ◌*◌, ◌≤◌, map, take,
 use Rattle.std.specs.List.{enumerate_from, flat_map}
 use Rattle.std.specs.Str.{bytes_eq}
 use Rattle.core_types.specs.Names.{with_all}
-use Rattle.type_names.specs.Numbering.{IsSettled, file_names_in}
-use Rattle.type_names.specs.WorldNames.{file_texts}
+use Rattle.type_names.specs.Numbering.{IsSettled}
+use Rattle.type_names.specs.WorldNames.{file_texts, file_names_in}
 use Rattle.type_names.proofs.world_names.name_files.Given as goal
 
 abbrev pub invariant-loop-file : goal.invariant-loop-file

@@ -2,8 +2,7 @@ use Rattle.std.proofs.Common.{ℕ, ◌+◌, ◌<◌, List, length, get_or, ap, �
 use Rattle.std.specs.Str.{bytes_eq}
 use Rattle.std.proofs.lemmas.List.FromFn.{length-map-range_with_len, get_or-map-range_with_len}
 use Rattle.image_rows.specs.Cells.{rows}
-use Rattle.core_types.specs.Names.{with_one}
-use Rattle.type_names.specs.Numbering.{id_in}
+use Rattle.core_types.specs.Names.{with_one, id_in}
 use Rattle.image_rows.specs.TypeNames.{full_name}
 use Rattle.type_names.proofs.Numbered.{names_more, ids_more, names_few}
 use Rattle.type_names.proofs.world_names.number_defs.Goals as goal

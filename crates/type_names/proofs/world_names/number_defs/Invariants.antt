@@ -1,8 +1,8 @@
 use Rattle.std.proofs.Common.{◌≡◌, map}
 use Rattle.std.specs.List.{range_with_len}
 use Rattle.std.specs.Str.{bytes_eq}
-use Rattle.core_types.specs.Names.{with_all}
-use Rattle.type_names.specs.Numbering.{id_in, IsSettled}
+use Rattle.core_types.specs.Names.{with_all, id_in}
+use Rattle.type_names.specs.Numbering.{IsSettled}
 use Rattle.image_rows.specs.TypeNames.{full_name}
 use Rattle.type_names.proofs.world_names.number_defs.Given as goal
 

@@ -5,7 +5,8 @@ use Rattle.std.specs.Str.{bytes_eq}
 use Rattle.type_names.specs.declared.resolution.DefPlace.{DefPlace}
 use Rattle.image_rows.specs.Cells.{rows, rows_of}
 use Rattle.core_types.specs.Names.{with_all}
-use Rattle.type_names.specs.Numbering.{IsPlaced, IsSettled, missing_text, target_in, target_of_in}
+use Rattle.type_names.specs.Numbering.{IsPlaced, IsSettled, missing_text}
+use Rattle.type_names.specs.WorldNames.{target_in, target_of_in}
 use Rattle.type_names.specs.Resolution.{resolved}
 use Rattle.image_rows.specs.TypeNames.{name_of_ref}
 use Rattle.type_names.proofs.Placed.{resolved_placed}

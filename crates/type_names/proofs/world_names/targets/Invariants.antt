@@ -2,7 +2,8 @@ use Rattle.std.proofs.Common.{◌≡◌, map}
 use Rattle.std.specs.List.{range_with_len, flat_map}
 use Rattle.std.specs.Str.{bytes_eq}
 use Rattle.core_types.specs.Names.{with_all}
-use Rattle.type_names.specs.Numbering.{IsSettled, missing_text, target_of_in}
+use Rattle.type_names.specs.Numbering.{IsSettled, missing_text}
+use Rattle.type_names.specs.WorldNames.{target_of_in}
 use Rattle.type_names.specs.Resolution.{resolved}
 use Rattle.image_rows.specs.TypeNames.{name_of_ref}
 use Rattle.type_names.proofs.world_names.targets.Given as goal

@@ -3,7 +3,7 @@ use Rattle.std.specs.Option.{option_map, option_map_or}
 use Rattle.std.proofs.lemmas.List.{append-nil}
 use Rattle.type_tree.specs.declared.tree.Key.TheVariants as key
 use Rattle.image_rows.specs.Cells.{rows}
-use Rattle.world_build.specs.Signatures.{listed, locals_in, run_at, sigs_in}
+use Rattle.world_build.specs.Signatures.{listed, locals_in, locals_run, sigs_in}
 use Rattle.type_members.specs.Trees.{tree}
 use Rattle.world_build.proofs.LocalsCount.{locals_more, locals_most, count_placed, locals_none}
 use Rattle.world_build.proofs.Pushed.{appended, enumerate_row}
@@ -50,6 +50,6 @@ loop-row-preserved c =
           c.in_ok-push.ensures.ok ∙ ap₂ (λ xs x. xs ++ x ∷ []) c.loop-row.invariant.places
           (c.in_ok-place.ensures.place
           ∙ ap (λ (n : ℕ). option_map (λ ts. record { first = record { 0 = n }; count = length ts }) (locals_in m (c.loop-row.row + 1))) c.loop-row.invariant.next)
-          ∙ sym (enumerate_row (run_at m c.args.first) c.loop-row.row);
+          ∙ sym (enumerate_row (locals_run m c.args.first) c.loop-row.row);
       next = omega (arith, count, c.loop-row.invariant.next, locals_more m c.loop-row.row less);
     }

@@ -1,6 +1,6 @@
 use Rattle.std.proofs.Common.{[], ap, sym, ◌∙◌}
 use Rattle.std.specs.Option.{option_copied}
-use Rattle.type_names.specs.Numbering.{id_in}
+use Rattle.core_types.specs.Names.{id_in}
 use Rattle.type_names.proofs.AssemblyNames.{ref_named, ref_unnamed, texts_there}
 use Rattle.type_names.proofs.Settled.{settled_now}
 use Rattle.type_names.proofs.type_finder.TypeFinder.assembly_at.Goals as goal
