@@ -22,7 +22,7 @@ pub fn text_by<'a>(tables: &Tables<'a>, index: u32) -> &'a str
     }
 }
 
-/// The blob at an index of `#Blob`; empty where there is none, which is not so in a file whose rows pass their checks.
+/// The blob at an index of `#Blob`; empty where there is none, which is not so in a file that passes its checks.
 pub fn blob_by<'a>(tables: &Tables<'a>, index: u32) -> &'a [u8]
     ensures exact { result.now ≡ spec.blob_by tables.now index }
     ensures short { length result.now < 2 ^ 32 }

@@ -45,7 +45,7 @@ pub record AreFew (w : MemberTable) : Type 0 where
 abbrev pub most_one_by_one : ℕ
 most_one_by_one = 32
 
--- the groups of a run; a run with few members has none
+-- the groups of a run, which are there exactly where it has more members than that
 abbrev pub HasGroups : List NameId → ℕ → ℕ → Option MemberGroups → Type 0
 HasGroups names first count None = count ≤ most_one_by_one
 HasGroups names first count (Some g) = (most_one_by_one < count) × AreGroups names first count g

@@ -41,12 +41,19 @@ formals_of s m owner = map (formal_of s m) (rows_with m 0x2A 2 owner)
 abbrev pub no_method : SigMethod
 no_method = record { has_this = false; vararg = false; generic = 0; ret = sig.BuiltIn 1; params = [] }
 
+-- what a blob says, read as the signature of a method, and as that of a field
+abbrev pub method_in : Metadata → List ℕ → SigMethod
+method_in m bytes = value_or no_method (placed bytes (member_at (row_counts m) bytes))
+
+abbrev pub field_in : Metadata → List ℕ → SigTy
+field_in m bytes = value_or (sig.Odd 0) (placed bytes (field_at (row_counts m) bytes))
+
 -- what the blobs of a MethodDef and of a Field row say
 unfoldable pub method_sig : Metadata → ℕ → SigMethod
-method_sig m row = value_or no_method (placed (blob m 0x06 row 4) (member_at (row_counts m) (blob m 0x06 row 4)))
+method_sig m row = method_in m (blob m 0x06 row 4)
 
 unfoldable pub field_sig : Metadata → ℕ → SigTy
-field_sig m row = value_or (sig.Odd 0) (placed (blob m 0x04 row 2) (field_at (row_counts m) (blob m 0x04 row 2)))
+field_sig m row = field_in m (blob m 0x04 row 2)
 
 -- ---- methods and fields
 

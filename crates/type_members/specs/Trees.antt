@@ -104,7 +104,7 @@ spec_sig m row = value_or (sig.Odd 0) (placed (blob m 0x1B row 0) (whole_type_at
 abbrev pub spec_type : TypeRows → Metadata → ℕ → Ty
 spec_type s m row = if nat_le 1 row && nat_le row (rows m 0x1B) then tree s (spec_sig m row) else nothing false
 
--- the type that a row of TypeDef, TypeRef or TypeSpec means
+-- the type that a row of TypeDef, TypeRef or TypeSpec means; for no row, or one of another table, the missing type with the empty name
 unfoldable pub type_at_row : TypeRows → Metadata → Option RowOf → Ty
 type_at_row s m None = nothing false
 type_at_row s m (Some r) = if r.table == 0x1B then spec_type s m r.row else row_type s [] false (Some r)

@@ -19,7 +19,7 @@ pub use file_rows::FileRows;
 pub use member_index::MemberIndex;
 pub use member_table::{MemberTable, Run};
 pub use member_tables::all_members;
-pub use members::no_method;
+pub use members::{field_in, method_in};
 pub use open_method::{Open, open_of};
 pub use row_index::RowIndex;
 pub use signature_trees::{def_type, nothing, tree, trees, type_at_row};

@@ -17,7 +17,7 @@ use type_tree::{Field, Method, Ty, with_room};
 /// How many members a definition has at most that are looked at one by one.
 const FEW: u32 = 32;
 
-/// The own methods and fields of each definition by their names. A definition with few of them needs no groups.
+/// The own methods and fields of each definition by their names. A definition with few of them has no groups.
 #[derive(Debug, Drop)]
 pub struct MemberIndex {
     methods: Items<Option<MemberGroups>>,

@@ -1,5 +1,5 @@
 //! Methods and fields of files (ECMA-335 II.22.26, II.22.15).
-ghost use Rattle.std.specs.Prelude.{◌≡◌, ◌-◌, ◌≤◌, ◌++◌, get_or, IfOk, OnOk};
+ghost use Rattle.std.specs.Prelude.{◌≡◌, ◌-◌, ◌<◌, ◌≤◌, ◌++◌, ◌^◌, get_or, length, IfOk, OnOk};
 ghost use Rattle.cli_tables.specs.Layout.{row_count};
 ghost use Rattle.type_members.specs.Members as spec;
 ghost use Rattle.type_members.specs.RowIndexes.{AreFileRows, Indexes};
@@ -37,7 +37,7 @@ const OFFSET: u8 = 0;
 const LAID_FIELD: u8 = 1;
 
 /// What stands for a method's signature where the blob is none.
-pub fn no_method(alloc: Global) -> SigMethod
+fn no_method(alloc: Global) -> SigMethod
     ensures { result ≡ spec.no_method }
 {
     SigMethod {
@@ -49,6 +49,25 @@ pub fn no_method(alloc: Global) -> SigMethod
     }
 }
 
+/// What a blob says, read as the signature of a method (II.23.2.1, II.23.2.2); where it is none, which is not so in a file that
+/// passes its checks, the signature of a method without parameters that returns void.
+pub fn method_in(alloc: Global, tables: &Tables<'_>, blob: &[u8]) -> Result<SigMethod, Memory>
+    requires { length blob.now < 2 ^ 32 }
+    ensures { IfOk result (λ sig. sig ≡ spec.method_in tables.now blob.now) }
+{
+    let read = read_method(alloc, blob, &row_counts(tables));
+    value_or(read, no_method(alloc))
+}
+
+/// What a blob says, read as the signature of a field (II.23.2.4); where it is none, the odd type 0.
+pub fn field_in(alloc: Global, tables: &Tables<'_>, blob: &[u8]) -> Result<SigTy, Memory>
+    requires { length blob.now < 2 ^ 32 }
+    ensures { IfOk result (λ sig. sig ≡ spec.field_in tables.now blob.now) }
+{
+    let read = read_field(alloc, blob, &row_counts(tables));
+    value_or(read, SigTy::Odd(0))
+}
+
 /// What the blob of a MethodDef row says.
 #[tactic(auto, unfolding(crate::specs::Members::method_sig, cli_tables::specs::Schema::columns))]
 fn method_sig(alloc: Global, tables: &Tables<'_>, row: u32) -> Result<SigMethod, Memory>
@@ -56,9 +75,11 @@ fn method_sig(alloc: Global, tables: &Tables<'_>, row: u32) -> Result<SigMethod,
     requires last { row ≤ row_count tables.now.tables 0x06 }
     ensures { IfOk result (λ sig. sig ≡ spec.method_sig tables.now row) }
 {
-    let bytes = blob(tables, METHOD_DEF, row, METHOD_SIGNATURE);
-    let read = read_method(alloc, bytes, &row_counts(tables));
-    value_or(read, no_method(alloc))
+    method_in(
+        alloc,
+        tables,
+        blob(tables, METHOD_DEF, row, METHOD_SIGNATURE),
+    )
 }
 
 /// What the blob of a Field row says.
@@ -68,9 +89,7 @@ fn field_sig(alloc: Global, tables: &Tables<'_>, row: u32) -> Result<SigTy, Memo
     requires last { row ≤ row_count tables.now.tables 0x04 }
     ensures { IfOk result (λ sig. sig ≡ spec.field_sig tables.now row) }
 {
-    let bytes = blob(tables, FIELD, row, FIELD_SIGNATURE);
-    let read = read_field(alloc, bytes, &row_counts(tables));
-    value_or(read, SigTy::Odd(0))
+    field_in(alloc, tables, blob(tables, FIELD, row, FIELD_SIGNATURE))
 }
 
 /// The name of a row, among those of its table.

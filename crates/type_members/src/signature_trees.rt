@@ -160,7 +160,8 @@ fn spec_type(alloc: Global, types: &TypeRows, tables: &Tables<'_>, row: u32) -> 
     tree(alloc, types, &spec_sig(alloc, tables, row)?)
 }
 
-/// The type that a row of TypeDef, TypeRef or TypeSpec means.
+/// The type that a row of TypeDef, TypeRef or TypeSpec means; for no row, or one of another table, the missing type with the
+/// empty name.
 #[tactic(auto, unfolding(crate::specs::Trees::type_at_row))]
 pub fn type_at_row(
     alloc: Global,

@@ -1,5 +1,5 @@
 -- What the rows of a file are called, from what was made of each table.
-use Rattle.std.proofs.Common.{◌≡◌, ℕ, ◌+◌, ◌<◌, ◌≤◌, List, [], ◌∷◌, ◌++◌, map, length, get_or, take, Option, Some, None, refl, sym, ap, ap₂, ◌∙◌, subst, arith}
+use Rattle.std.proofs.Common.{◌≡◌, ℕ, ◌+◌, ◌<◌, ◌≤◌, List, [], ◌∷◌, ◌++◌, map, length, get_or, take, Some, refl, sym, ap, ◌∙◌, subst, arith}
 use Rattle.std.specs.Prelude.{slice_get}
 use Rattle.std.specs.List.{enumerate_from, flat_map, range_with_len}
 use Rattle.std.specs.Str.{bytes_eq}
@@ -10,7 +10,6 @@ use Rattle.std.proofs.lemmas.Simd.{map-map}
 use Rattle.clr_base.specs.declared.ids.NameId.{NameId}
 use Rattle.cli_tables.specs.Metadata.{Metadata}
 use Rattle.type_names.specs.declared.file_names.FileNames.{FileNames}
-use Rattle.type_names.specs.declared.resolution.DefPlace.{DefPlace}
 use Rattle.type_names.specs.declared.type_rows.Target.{Target}
 use Rattle.type_names.specs.declared.type_rows.TypeRows.{TypeRows}
 use Rattle.image_rows.specs.Cells.{rows, rows_of, text}
@@ -18,7 +17,7 @@ use Rattle.core_types.specs.CoreLibrary as core
 use Rattle.core_types.specs.CoreTable as table
 use Rattle.core_types.specs.Names.{with_one, with_all, number_in, id_in}
 use Rattle.type_names.specs.Numbering.{IsSettled, column_texts}
-use Rattle.type_names.specs.Resolution.{first_def, resolved}
+use Rattle.type_names.specs.Resolution.{first_def}
 use Rattle.image_rows.specs.TypeNames.{full_name, name_of_ref}
 use Rattle.type_names.specs.WorldNames.{all_file_names, file_names, file_names_in, file_texts, missing_refs, names, target_of_in, type_rows_in}
 use Rattle.core_types.proofs.CoreNames.{names_listed}

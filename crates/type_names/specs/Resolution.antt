@@ -110,7 +110,7 @@ resolved_within (suc n) files k m row =
 unfoldable pub resolved : List Metadata → ℕ → Metadata → ℕ → Option DefPlace
 resolved files k m row = resolved_within most_scopes files k m row
 
--- what each TypeRef row of each file names
+-- what each TypeRef row of a file names, and those of all files
 abbrev pub places_in : List Metadata → ℕ × Metadata → List (Option DefPlace)
 places_in files (k, m) = map (resolved files k m) (rows_of m 0x01)
 

@@ -1,5 +1,5 @@
 -- How types are found by their numbers.
-use Rattle.std.specs.Prelude.{◌≡◌, ℕ, ◌+◌, ◌<◌, ◌==◌, ◌&&◌, Bool, List, length, Option, Some, slice_get}
+use Rattle.std.specs.Prelude.{◌≡◌, ℕ, ◌+◌, ◌<◌, ◌==◌, ◌&&◌, Bool, List, length, Some, slice_get}
 use Rattle.std.specs.List.{find, range_with_len}
 use Rattle.std.specs.Str.{bytes_eq}
 use Rattle.cli_tables.specs.Metadata.{Metadata}
@@ -11,7 +11,7 @@ use Rattle.image_rows.specs.Cells.{rows}
 use Rattle.core_types.specs.CoreTable.{core_defs}
 use Rattle.core_types.specs.Names.{number_in}
 use Rattle.image_rows.specs.Nesting.{enclosing_row}
-use Rattle.type_names.specs.Resolution.{def_row, core_namespace, core_type_name}
+use Rattle.type_names.specs.Resolution.{core_namespace, core_type_name}
 use Rattle.type_names.specs.TypeKeys.{Finds, first_at, keys_of}
 use Rattle.image_rows.specs.TypeNames.{def_name, def_namespace}
 use Rattle.type_names.specs.TypeTexts.{AreCoreTexts, AreFileTexts}

@@ -1,7 +1,6 @@
 -- The names of a world, and what the rows of its files are called.
 use Rattle.std.specs.Prelude.{ℕ, List, [], ◌∷◌, ◌++◌, map, filter, is_none, Option, None, Some}
 use Rattle.std.specs.List.{flat_map, enumerate_from}
-use Rattle.clr_base.specs.declared.ids.NameId.{NameId}
 use Rattle.cli_tables.specs.Metadata.{Metadata}
 use Rattle.type_names.specs.declared.file_names.FileNames.{FileNames}
 use Rattle.type_names.specs.declared.resolution.DefPlace.{DefPlace}
@@ -11,6 +10,7 @@ use Rattle.type_names.specs.declared.type_rows.TypeRows.{TypeRows}
 use Rattle.core_types.specs.CoreLibrary.{texts_in_order}
 use Rattle.image_rows.specs.Cells.{rows, rows_of, text}
 use Rattle.core_types.specs.Names.{first_seen, id_in}
+use Rattle.type_names.specs.Numbering.{column_texts}
 use Rattle.type_names.specs.Resolution.{def_at, resolved, first_def}
 use Rattle.image_rows.specs.TypeNames.{full_name, name_of_ref}
 
@@ -23,13 +23,13 @@ missing_refs files k m = filter (λ row. is_none (resolved files k m row)) (rows
 unfoldable pub file_texts : List Metadata → ℕ × Metadata → List (List ℕ)
 file_texts files (k, m) =
     map (full_name m) (rows_of m 0x02) ++ map (name_of_ref m) (missing_refs files k m)
-    ++ map (λ row. text m 0x04 row 1) (rows_of m 0x04) ++ map (λ row. text m 0x06 row 3) (rows_of m 0x06)
+    ++ column_texts m 0x04 1 ++ column_texts m 0x06 3
 
 -- the core's names, the empty name, and the files' in their order, each once
 unfoldable pub names : List Metadata → List (List ℕ)
 names files = first_seen (texts_in_order ++ [] ∷ [] ++ flat_map (file_texts files) (enumerate_from 0 files))
 
--- ---- what the rows of a file are called, by names that are there
+-- ---- what the rows of a file are called, by a list of names
 
 -- what a TypeRef row names: its definition, or its name where that is missing
 abbrev pub target_in : List (List ℕ) → List Metadata → List ℕ → Option DefPlace → Target

@@ -1,7 +1,6 @@
 //! Which definition each reference to a type names, for all references of all files (ECMA-335 II.7.3, II.22.38).
 ghost use Rattle.std.specs.Prelude.{◌≡◌, ◌≤◌, Some, length, map, slice_get, IfOk, OnOk};
 ghost use Rattle.image_rows.specs.Cells.{rows_of};
-ghost use Rattle.type_names.specs.Resolution.{all_places};
 ghost use Rattle.type_names.specs.Resolution as resolution;
 ghost use Rattle.type_names.specs.TypeFinders as spec;
 ghost use Rattle.type_names.specs.TypeTexts as texts;
@@ -101,7 +100,7 @@ pub fn resolve_files(
     files: &[Tables<'_>],
 ) -> Result<Items<Items<Option<DefPlace>>>, Memory>
     requires { length files.now ≤ 16 }
-    ensures { IfOk result (λ found. found ≡ all_places files.now) }
+    ensures { IfOk result (λ found. found ≡ resolution.all_places files.now) }
 {
     let types = finder(alloc, files)?;
     let mut found = Items::new(alloc);

@@ -9,7 +9,6 @@ use crate::resolution::DefPlace;
 use crate::type_keys::{FirstPlaces, TypeKey};
 use crate::type_texts::{CoreTexts, FileTexts};
 use cli_tables::Tables;
-use clr_base::NameId;
 use core_types::Names;
 use sqlite_items::Items;
 

@@ -105,7 +105,7 @@ fn core_namespaces(alloc: Global, names: &mut Names) -> Result<Items<NameId>, Me
     requires { length names.old ≤ 1000 }
     ensures extends { OnOk result (spec.Extends names.old names.new) }
     ensures numbers { IfOk result (spec.AreNumbers names.new (spec.in_order resolution.core_namespace core_defs)) }
-    ensures few { OnOk result (length names.new ≤ length names.old + 36) }
+    ensures few { OnOk result (length names.new ≤ length names.old + core_defs) }
 {
     let mut ids = Items::new(alloc);
     for number in 0..DEF_COUNT {
@@ -119,7 +119,7 @@ fn core_names(alloc: Global, names: &mut Names) -> Result<Items<NameId>, Memory>
     requires { length names.old ≤ 1000 }
     ensures extends { OnOk result (spec.Extends names.old names.new) }
     ensures numbers { IfOk result (spec.AreNumbers names.new (spec.in_order resolution.core_type_name core_defs)) }
-    ensures few { OnOk result (length names.new ≤ length names.old + 36) }
+    ensures few { OnOk result (length names.new ≤ length names.old + core_defs) }
 {
     let mut ids = Items::new(alloc);
     for number in 0..DEF_COUNT {

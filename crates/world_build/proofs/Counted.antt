@@ -6,9 +6,10 @@ use Rattle.std.proofs.lemmas.List.{take_more}
 use Rattle.std.proofs.lemmas.List.FromFn.{get_or-range_with_len, length-range_with_len}
 use Rattle.std.proofs.lemmas.List.Sums.{sum_by-append, sum_by-cons}
 use Rattle.cli_tables.specs.Metadata.{Metadata}
-use Rattle.image_rows.specs.Cells.{rows, rows_of, at, blob}
+use Rattle.image_rows.specs.Cells.{rows, rows_of, at}
 use Rattle.world_build.specs.Counts.{too_many, capped, local_count, all_locals}
 use Rattle.world_build.specs.Signatures.{listed, locals_by, locals_in, locals_before}
+use Rattle.world_build.proofs.LocalsCount.{locals_more}
 
 -- ---- counts that stop
 
@@ -39,20 +40,6 @@ capped_sum a b x y a_is b_is =
 pub no_locals : (m : Metadata) → 0 ≡ capped (locals_before m 0)
 unfolding locals_before
 no_locals m = refl
-
-one_row : (m : Metadata) (n : ℕ) → n < rows m 0x11 → take (n + 1) (rows_of m 0x11) ≡ take n (rows_of m 0x11) ++ (n + 1) ∷ []
-one_row m n within =
-    let last : 1 + n ≡ n + 1 = omega arith in
-    take_more (rows_of m 0x11) n 0 (omega (arith, length-range_with_len 1 (rows m 0x11)))
-    ∙ ap (λ r. take n (rows_of m 0x11) ++ r ∷ []) (get_or-range_with_len 1 (rows m 0x11) n 0 within ∙ last)
-
-locals_more : (m : Metadata) (n : ℕ) → n < rows m 0x11 → locals_before m (n + 1) ≡ locals_before m n + length (listed (locals_in m (n + 1)))
-unfolding locals_before
-locals_more m n within =
-    let f = λ (row : ℕ). length (listed (locals_in m row)) in
-    let sum = sum_by-append f (take n (rows_of m 0x11)) ((n + 1) ∷ []) in
-    let last = sum_by-cons f (n + 1) [] in
-    ap (sum_by f) (one_row m n within) ∙ omega (arith, sum, last)
 
 local_count_of : (m : Metadata) (row index : ℕ) → index ≡ at m 0x11 row 0 → local_count m index ≡ capped (length (listed (locals_in m row)))
 unfolding local_count

@@ -1,5 +1,5 @@
 -- Rows of MemberRef that say the same have the same member.
-use Rattle.std.proofs.Common.{◌≡◌, ℕ, ◌-◌, ◌<◌, ◌≤◌, Bool, true, List, [], length, get_or, Option, Some, cond, unwrap_or, eqb, if◌then◌else◌, sym, ap, ◌∙◌, subst, arith}
+use Rattle.std.proofs.Common.{◌≡◌, ℕ, ◌-◌, ◌<◌, ◌≤◌, Bool, true, List, length, get_or, Option, Some, cond, eqb, if◌then◌else◌, sym, ap, ◌∙◌, subst, arith}
 use Rattle.std.specs.Prelude.{◌&&◌}
 use Rattle.std.specs.Option.{IfSome, option_and_then}
 use Rattle.std.proofs.lemmas.Bool.{and_parts, eqb-true, le-leb}
@@ -19,7 +19,7 @@ use Rattle.world_build.specs.declared.member_refs.RefCells.{RefCells}
 use Rattle.image_rows.specs.Cells.{at, rows, text, text_by, blob, blob_by, coded}
 use Rattle.world_build.specs.MemberRefs.{AreNoted, cells_of, members_of_refs, noted_at, same_cells}
 use Rattle.type_members.specs.MemberTable.{open_of, own_field, own_method}
-use Rattle.type_members.specs.Members.{no_method}
+use Rattle.type_members.specs.Members.{field_in, method_in}
 use Rattle.core_types.specs.Names.{id_in}
 use Rattle.world_build.specs.References.{Reader, field_member, member_ref, method_member, ref_blob, ref_field_sig, ref_member, ref_method_sig, ref_name_id, ref_owner}
 use Rattle.image_rows.specs.Blobs.{begins_with, row_counts, value_or}
@@ -48,11 +48,11 @@ module _ (w : Reader) where
 
     same_field : ref_blob w.tables a ≡ ref_blob w.tables b → ref_field_sig w.tables a ≡ ref_field_sig w.tables b
     unfolding ref_field_sig
-    same_field e = ap (λ (bytes : List ℕ). value_or (sig.Odd 0) (placed bytes (field_at (row_counts w.tables) bytes))) e
+    same_field e = ap (field_in w.tables) e
 
     same_method : ref_blob w.tables a ≡ ref_blob w.tables b → ref_method_sig w.tables a ≡ ref_method_sig w.tables b
     unfolding ref_method_sig
-    same_method e = ap (λ (bytes : List ℕ). value_or no_method (placed bytes (member_at (row_counts w.tables) bytes))) e
+    same_method e = ap (method_in w.tables) e
 
     same_parts : ref_owner w a ≡ ref_owner w b → ref_name_id w a ≡ ref_name_id w b → ref_blob w.tables a ≡ ref_blob w.tables b → member_ref w a ≡ member_ref w b
     unfolding member_ref

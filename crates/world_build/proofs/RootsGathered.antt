@@ -18,13 +18,14 @@ use Rattle.world_build.specs.declared.roots.NamedRoot.{NamedRoot}
 use Rattle.world_build.specs.declared.roots.NewRoots.{NewRoots}
 use Rattle.world_build.specs.declared.roots.RootForm.{RootForm}
 use Rattle.world_build.specs.declared.roots.RootForm.TheVariants.{Types, Entries}
-use Rattle.world_build.specs.Entries.{is_entry_at, own_methods, meth_id, entry_in, entry_at, entry_of}
+use Rattle.world_build.specs.Entries.{is_entry_at, own_methods, entry_in, entry_at, entry_of}
 use Rattle.world_build.specs.Roots.{NamesRoot, NameRoots, root_key, roots_from, world_with, AreNewRoots, HasRoots, IsFirstUnnamed}
 use Rattle.world_build.specs.Roots as spec
 use Rattle.clr_base.proofs.ListFacts.{found_passes, there_is}
 use Rattle.world_build.proofs.RootLemmas.{read_fits}
 use Rattle.world_build.proofs.RootsWhole.{RootFits, RootsFit, whole_with}
 use Rattle.world_build.proofs.RootsWhole as whole
+use Rattle.type_members.specs.MemberTable.{method_id}
 
 -- ---- words in a list
 
@@ -93,9 +94,9 @@ module _ (w : Facts) where
       go None there passes = absurd cc
       go (Some m) there passes = there_is w.methods n m there
 
-  numbered : (o : Option ℕ) (id : MethId) → ((n : ℕ) → o ≡ Some n → n < length w.methods) → option_map meth_id o ≡ Some id → id.0 < length w.methods
+  numbered : (o : Option ℕ) (id : MethId) → ((n : ℕ) → o ≡ Some n → n < length w.methods) → option_map method_id o ≡ Some id → id.0 < length w.methods
   numbered None id small e = absurd cc
-  numbered (Some n) id small e = let same : meth_id n ≡ id = cc in subst (λ (m : MethId). m.0 < length w.methods) same (small n refl)
+  numbered (Some n) id small e = let same : method_id n ≡ id = cc in subst (λ (m : MethId). m.0 < length w.methods) same (small n refl)
 
   at_below : (name : List ℕ) (y : Ty-F Ty) (n : ℕ) → entry_at w name y ≡ Some n → n < length w.methods
   at_below name (Ty-F.Inst d ts) n e = found_below name d n e

@@ -16,6 +16,7 @@ use Rattle.type_tree.specs.World.{Facts}
 use Rattle.core_types.specs.declared.core_type.CoreType.{CoreType}
 use Rattle.core_types.specs.declared.core_type.CoreType.TheVariants.{Void, Int32, String}
 use Rattle.core_types.specs.CoreTable.{number_of}
+use Rattle.type_members.specs.MemberTable.{method_id}
 
 -- the parts of a word: what stands before its last `::`, and what stands behind that
 pub record IsParted (word owner name : List ℕ) : Type 0 where
@@ -70,9 +71,6 @@ abbrev pub own_methods : Option Def → List ℕ
 own_methods None = []
 own_methods (Some d) = range_with_len d.first_method d.methods
 
-abbrev pub meth_id : ℕ → MethId
-meth_id n = record { 0 = n }
-
 -- the first own method that is an entry of that name
 unfoldable pub entry_in : Facts → List ℕ → DefId → Option ℕ
 entry_in w name d = find (λ n. is_entry_at w name (slice_get w.methods n)) (own_methods (slice_get w.defs d.0))
@@ -83,4 +81,4 @@ entry_at w name (Ty-F.Inst d parts) = entry_in w name d
 entry_at w name _ = None
 
 abbrev pub entry_of : Facts → List ℕ → Ty → Option MethId
-entry_of w name t = option_map meth_id (entry_at w name (out-Ty t))
+entry_of w name t = option_map method_id (entry_at w name (out-Ty t))

@@ -22,7 +22,7 @@ use Rattle.type_members.specs.declared.member_table.MemberTable.{MemberTable}
 use Rattle.type_names.specs.declared.type_rows.TypeRows.{TypeRows}
 use Rattle.image_rows.specs.Cells.{rows, at, text, blob, coded, loose, owner_of, rows_with}
 use Rattle.type_members.specs.MemberTable.{open_of, own_method, own_field}
-use Rattle.type_members.specs.Members.{no_method}
+use Rattle.type_members.specs.Members.{field_in, method_in}
 use Rattle.core_types.specs.Names.{id_in}
 use Rattle.image_rows.specs.Blobs.{begins_with, row_counts, value_or}
 use Rattle.type_members.specs.Trees.{tree, trees, type_at_row, def_type, nothing}
@@ -38,7 +38,7 @@ pub record Reader : Type 0 where
 
 -- ---- MemberRef
 
--- the type that owns the member: the missing type without a name where the parent is a method or a module
+-- the type that owns the member: the missing type with the empty name where the parent is a method, a module or none
 unfoldable pub ref_owner : Reader → ℕ → Ty
 ref_owner w row = type_at_row w.types w.tables (coded MemberRefParent (at w.tables 0x0A row 0))
 
@@ -46,10 +46,10 @@ abbrev pub ref_blob : Metadata → ℕ → List ℕ
 ref_blob m row = blob m 0x0A row 2
 
 unfoldable pub ref_method_sig : Metadata → ℕ → SigMethod
-ref_method_sig m row = value_or no_method (placed (ref_blob m row) (member_at (row_counts m) (ref_blob m row)))
+ref_method_sig m row = method_in m (ref_blob m row)
 
 unfoldable pub ref_field_sig : Metadata → ℕ → SigTy
-ref_field_sig m row = value_or (sig.Odd 0) (placed (ref_blob m row) (field_at (row_counts m) (ref_blob m row)))
+ref_field_sig m row = field_in m (ref_blob m row)
 
 -- the name of the member; one that no row has is no name of the world, and finds nothing
 unfoldable pub ref_name_id : Reader → ℕ → NameId

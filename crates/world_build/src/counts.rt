@@ -1,5 +1,5 @@
 //! How many definitions, methods, fields and signatures files give a world, and whether tokens can number them.
-ghost use Rattle.std.specs.Prelude.{◌≡◌, ◌≤◌, [], true, IfOk, OnOk};
+ghost use Rattle.std.specs.Prelude.{◌≡◌, [], true, IfOk, OnOk};
 ghost use Rattle.clr_base.specs.Checks.{outcome};
 ghost use Rattle.world_build.specs.Counts as spec;
 ghost use Rattle.image_rows.specs.Refusals.{GivesOutcome};

@@ -4,6 +4,7 @@ ghost use Rattle.std.specs.Option.{option_map, IfSome, IfNone};
 ghost use Rattle.type_tree.specs.Fits.{fits};
 ghost use Rattle.type_tree.specs.Whole.{counts};
 ghost use Rattle.world_build.specs.Entries as spec;
+ghost use Rattle.type_members.specs.MemberTable.{method_id};
 
 use clr_base::{DefId, MethId};
 use core_types::CoreType;
@@ -77,7 +78,7 @@ fn is_entry(world: &World, name: &str, method: &Method) -> bool
 /// The first own method of a definition that is an entry of that name.
 fn entry_in(world: &World, name: &str, id: DefId) -> Option<MethId>
     requires { id.0 < length world.now.defs }
-    ensures { result ≡ option_map spec.meth_id (spec.entry_in world.now name.now id) }
+    ensures { result ≡ option_map method_id (spec.entry_in world.now name.now id) }
 {
     world.whole();
     let def = world.def(id);

@@ -16,7 +16,7 @@ use type_members::tree;
 use type_names::TypeRows;
 use type_tree::{Key, KeyList, Locals};
 
-/// The types that the blob at an index lists, none where it doesn't begin with 07.
+/// The types of the local variables that the blob at an index lists (II.23.2.6), none where it doesn't begin with 07.
 #[tactic(auto, unfolding(crate::specs::Signatures::locals_by))]
 pub fn locals_by(
     alloc: Global,

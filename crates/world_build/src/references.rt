@@ -1,5 +1,5 @@
 //! The members that MemberRef rows name (ECMA-335 II.22.25), and the types that own them.
-ghost use Rattle.std.specs.Prelude.{◌≡◌, ◌≤◌, Option, IfOk};
+ghost use Rattle.std.specs.Prelude.{◌≡◌, ◌≤◌, IfOk};
 ghost use Rattle.cli_tables.specs.Layout.{row_count};
 ghost use Rattle.type_tree.specs.Kinds as kinds;
 ghost use Rattle.world_build.specs.References as spec;
@@ -8,9 +8,9 @@ use crate::reader::Reader;
 use cli_sigs::{SigMethod, SigTy, read_field, read_method};
 use cli_tables::{CodedIndex, Tables};
 use clr_base::{FieldId, Memory, MethId, NameId};
-use image_rows::{FIELD_CODE, MEMBER_REF, begins_with, blob, coded, row_counts, text, value_or};
+use image_rows::{FIELD_CODE, MEMBER_REF, begins_with, blob, coded, text};
 use std::alloc::Global;
-use type_members::{no_method, open_of, tree, type_at_row};
+use type_members::{field_in, method_in, open_of, tree, type_at_row};
 use type_tree::{Member, Ty};
 
 /// The columns of MemberRef: Class, Name and Signature.
@@ -20,7 +20,8 @@ pub const NAME: u8 = 1;
 
 pub const SIGNATURE: u8 = 2;
 
-/// The type that owns the member in a MemberRef row: the missing type without a name where its parent is a method or a module.
+/// The type that owns the member in a MemberRef row: the missing type with the empty name where its parent is a method, a
+/// module or none.
 #[tactic(auto, unfolding(crate::specs::References::ref_owner, cli_tables::specs::Schema::columns))]
 pub fn ref_owner(alloc: Global, reader: &Reader<'_, '_>, row: u32) -> Result<Ty, Memory>
     requires first { 1 ≤ row }
@@ -39,9 +40,7 @@ fn ref_method_sig(alloc: Global, tables: &Tables<'_>, row: u32) -> Result<SigMet
     requires last { row ≤ row_count tables.now.tables 0x0A }
     ensures { IfOk result (λ sig. sig ≡ spec.ref_method_sig tables.now row) }
 {
-    let bytes = blob(tables, MEMBER_REF, row, SIGNATURE);
-    let read = read_method(alloc, bytes, &row_counts(tables));
-    value_or(read, no_method(alloc))
+    method_in(alloc, tables, blob(tables, MEMBER_REF, row, SIGNATURE))
 }
 
 /// What the blob of a MemberRef row says, read as the signature of a field.
@@ -51,9 +50,7 @@ fn ref_field_sig(alloc: Global, tables: &Tables<'_>, row: u32) -> Result<SigTy, 
     requires last { row ≤ row_count tables.now.tables 0x0A }
     ensures { IfOk result (λ sig. sig ≡ spec.ref_field_sig tables.now row) }
 {
-    let bytes = blob(tables, MEMBER_REF, row, SIGNATURE);
-    let read = read_field(alloc, bytes, &row_counts(tables));
-    value_or(read, SigTy::Odd(0))
+    field_in(alloc, tables, blob(tables, MEMBER_REF, row, SIGNATURE))
 }
 
 /// The name of the member in a MemberRef row.

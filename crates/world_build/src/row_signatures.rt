@@ -1,4 +1,4 @@
-//! The signatures that a file's rows have, in their order.
+//! The signatures that a file's rows have, in their order, and how many they are.
 ghost use Rattle.std.specs.Prelude.{◌≡◌, ◌++◌, ◌<◌, ◌≤◌, length, map, OnOk};
 ghost use Rattle.cli_tables.specs.Schema.{columns};
 ghost use Rattle.type_tree.specs.declared.tree.Key.TheVariants as key;

@@ -1,9 +1,10 @@
 use Rattle.std.proofs.Common.{◌≡◌, ◌∙◌, ◌+◌, ◌-◌, ℕ, true, false, sym, ap, arith, slice_get}
 use Rattle.std.specs.List.{find, range_with_len}
 use Rattle.std.specs.Option.{option_map}
-use Rattle.world_build.specs.Entries.{is_entry_at, entry_in, meth_id}
+use Rattle.world_build.specs.Entries.{is_entry_at, entry_in}
 use Rattle.world_build.proofs.EntryLemmas.{methods_small, methods_inside, entry_where, looked_at, passed_over, all_looked, name_there}
 use Rattle.world_build.proofs.entries.entry_in.Goals as goal
+use Rattle.type_members.specs.MemberTable.{method_id}
 
 pub loop-own-init : goal.loop-own-init
 loop-own-init c =
@@ -34,7 +35,7 @@ returns-then-is_entry c =
     let d = c.def-def.result.now in
     let p = λ (n : ℕ). is_entry_at w c.args.name.now (slice_get w.methods n) in
     let passes : p (d.first_method + c.loop-own.own) ≡ true = ap (is_entry_at w c.args.name.now) c.method.ensures.value ∙ sym c.is_entry.ensures ∙ c.if-is_entry.true in
-    sym (ap (option_map meth_id) (looked_at p d.first_method d.methods c.loop-own.own (entry_in w c.args.name.now c.args.id) c.loop-own-test.true c.loop-own.invariant passes))
+    sym (ap (option_map method_id) (looked_at p d.first_method d.methods c.loop-own.own (entry_in w c.args.name.now c.args.id) c.loop-own-test.true c.loop-own.invariant passes))
 
 pub loop-own-preserved : goal.loop-own-preserved
 loop-own-preserved c =
@@ -50,4 +51,4 @@ returns c =
     let d = c.def-def.result.now in
     let p = λ (n : ℕ). is_entry_at w c.args.name.now (slice_get w.methods n) in
     let past : d.methods - c.loop-own.own ≡ 0 = omega (arith, c.loop-own-test.false) in
-    sym (ap (option_map meth_id) (all_looked p d.first_method d.methods c.loop-own.own (entry_in w c.args.name.now c.args.id) c.loop-own-test.false c.loop-own.invariant))
+    sym (ap (option_map method_id) (all_looked p d.first_method d.methods c.loop-own.own (entry_in w c.args.name.now c.args.id) c.loop-own-test.false c.loop-own.invariant))
