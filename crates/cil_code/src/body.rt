@@ -13,7 +13,7 @@ pub type TargetList = Items<u32>;
 pub type CodeList = Items<Placed>;
 
 /// A prefix (III.2) with its operand.
-#[derive(Clone, Copy, Debug, PartialEq, Eq)]
+#[derive(Clone, Copy)]
 pub struct Prefix {
     pub op: Op,
     /// The number that its bytes give, lowest byte first, without a sign; 0 where there are none.
@@ -21,7 +21,7 @@ pub struct Prefix {
 }
 
 /// An instruction with the prefixes before it.
-#[derive(Debug, Drop)]
+#[derive(Drop)]
 pub struct Instr {
     pub prefixes: PrefixList,
     pub op: Op,
@@ -34,14 +34,14 @@ pub struct Instr {
 
 /// An instruction and its place: the first byte of its first prefix or of its code, counted in bytes
 /// from the first byte of the body's code.
-#[derive(Debug, Drop)]
+#[derive(Drop)]
 pub struct Placed {
     pub place: u32,
     pub instr: Instr,
 }
 
 /// A method body (II.25.4): what its header says, and its instructions.
-#[derive(Debug, Drop)]
+#[derive(Drop)]
 pub struct Body {
     /// How many values the evaluation stack holds at most, as the header says; 8 for a tiny header.
     pub max_stack: u32,

@@ -7,7 +7,7 @@ ghost use Rattle.cil_code.specs.InstructionSet.{op_of, width, is_switch};
 use crate::opcode::Opcode;
 
 /// What stands behind the code of an instruction (III.1.9). Numbers have their lowest byte first.
-#[derive(Clone, Copy, Debug, PartialEq, Eq)]
+#[derive(Clone, Copy)]
 pub enum OperandKind {
     NoOperand,
     /// One byte: the number of an argument or a local, a constant, or an alignment.
@@ -52,7 +52,7 @@ impl OperandKind {
 }
 
 /// A row of the instruction set.
-#[derive(Clone, Copy, Debug, PartialEq, Eq)]
+#[derive(Clone, Copy)]
 pub struct Op {
     /// The byte that spells it, or 0xFE00 plus the second of two.
     pub code: u16,

@@ -15,6 +15,3 @@ pub use code_fault::CodeFault;
 pub use decoding::decode;
 pub use instruction_set::{Op, OperandKind, op_of_code};
 pub use opcode::Opcode;
-
-#[cfg(test)]
-mod tests;

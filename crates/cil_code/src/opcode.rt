@@ -1,7 +1,7 @@
 //! The names of the instructions, as the standard has them (ECMA-335 III.3, III.4 and III.2 for the prefixes).
 
 /// An instruction or a prefix, by its name: `ldc.i4.m1` is `LdcI4M1`.
-#[derive(Clone, Copy, Debug, PartialEq, Eq)]
+#[derive(Clone, Copy)]
 pub enum Opcode {
     Nop,
     Break,

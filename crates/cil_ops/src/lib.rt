@@ -10,8 +10,6 @@ mod int32;
 mod int64;
 mod number;
 mod operations;
-#[cfg(test)]
-mod tests;
 
 pub use comparing::compare;
 pub use computing::binary;

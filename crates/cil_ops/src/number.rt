@@ -2,7 +2,7 @@
 
 /// A number on the evaluation stack (ECMA-335 III.1.1): signed, in two's complement. An unsigned number stands there
 /// by its bits.
-#[derive(Clone, Copy, Debug, PartialEq, Eq)]
+#[derive(Clone, Copy, PartialEq, Eq)]
 pub enum Num {
     /// `int32`: 32 bits.
     I4(i32),

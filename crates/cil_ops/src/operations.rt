@@ -1,7 +1,7 @@
 //! The operations, one variant an instruction.
 
 /// An instruction that takes two numbers and gives one.
-#[derive(Clone, Copy, Debug, PartialEq, Eq)]
+#[derive(Clone, Copy)]
 pub enum BinOp {
     /// `add` (ECMA-335 III.3.1): the sum, wrapped.
     Add,
@@ -44,7 +44,7 @@ pub enum BinOp {
 }
 
 /// A comparison of two numbers of one width, as `ceq`, `cgt`, `clt` and the conditional branches make it.
-#[derive(Clone, Copy, Debug, PartialEq, Eq)]
+#[derive(Clone, Copy)]
 pub enum CmpOp {
     /// `ceq`, `beq`.
     Eq,
@@ -69,7 +69,7 @@ pub enum CmpOp {
 }
 
 /// An instruction that takes one number and gives one.
-#[derive(Clone, Copy, Debug, PartialEq, Eq)]
+#[derive(Clone, Copy)]
 pub enum ConvOp {
     /// `conv.i1` (ECMA-335 III.3.27): the lowest 8 bits as a signed number, an `I4`.
     ToI1,

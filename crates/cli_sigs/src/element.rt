@@ -3,7 +3,7 @@ ghost use Rattle.std.specs.Prelude.{◌≡◌};
 ghost use Rattle.cli_sigs.specs.Element as spec;
 
 /// A code with no type behind it.
-#[derive(Clone, Copy, Debug, PartialEq, Eq)]
+#[derive(Clone, Copy)]
 pub(crate) enum Simple {
     BuiltIn,
     ValueType,
@@ -14,7 +14,7 @@ pub(crate) enum Simple {
 }
 
 /// A code with types behind it: each counts as one level of nesting.
-#[derive(Clone, Copy, Debug, PartialEq, Eq)]
+#[derive(Clone, Copy)]
 pub(crate) enum Constructor {
     Ptr,
     ByRef,

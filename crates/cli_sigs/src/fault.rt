@@ -19,7 +19,7 @@ pub enum SigFault {
 }
 
 /// Why reading stopped.
-#[derive(Clone, Copy, Debug, PartialEq, Eq)]
+#[derive(Clone, Copy)]
 pub(crate) enum Stop {
     /// Want of memory.
     Memory,

@@ -12,6 +12,3 @@ mod types;
 pub use fault::SigFault;
 pub use readers::{read_field, read_locals, read_method, read_method_spec, read_type_spec};
 pub use signature::{RowCounts, SigMethod, SigTy, SigTyList};
-
-#[cfg(test)]
-mod tests;

@@ -8,7 +8,7 @@ use crate::fault::Stop;
 use crate::signature::RowCounts;
 
 /// Before which part the marks stand.
-#[derive(Clone, Copy, Debug, PartialEq, Eq)]
+#[derive(Clone, Copy)]
 pub(crate) enum Before {
     /// A type, with custom modifiers (II.23.2.7).
     Type,

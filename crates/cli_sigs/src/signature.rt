@@ -3,7 +3,7 @@
 use sqlite_items::{Boxed, Items};
 
 /// A type. A code is an element type's number (II.23.1.16).
-#[derive(Debug, Drop)]
+#[derive(Drop)]
 pub enum SigTy {
     /// A built-in type, by its code. Void (1) stands only as a result and behind a pointer.
     BuiltIn(u8),
@@ -29,7 +29,7 @@ pub enum SigTy {
 pub type SigTyList = Items<SigTy>;
 
 /// A method's signature (II.23.2.1 to II.23.2.3).
-#[derive(Debug, Drop)]
+#[derive(Drop)]
 pub struct SigMethod {
     /// Whether the method has a `this`.
     pub has_this: bool,
@@ -44,7 +44,7 @@ pub struct SigMethod {
 }
 
 /// How many rows the tables have that a signature may name.
-#[derive(Clone, Copy, Debug, PartialEq, Eq)]
+#[derive(Clone, Copy)]
 pub struct RowCounts {
     pub type_def: u32,
     pub type_ref: u32,

@@ -12,7 +12,7 @@ use sqlite_items::{Boxed, Items};
 use std::alloc::Global;
 
 /// Whose signature a method's is.
-#[derive(Clone, Copy, Debug, PartialEq, Eq)]
+#[derive(Clone, Copy)]
 pub(crate) enum Callee {
     /// A method definition's or reference's.
     Member,

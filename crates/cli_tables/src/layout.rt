@@ -9,14 +9,14 @@ use crate::widths::{has_bit, width_of};
 use clr_base::{read_u32, read_u64};
 
 /// Where a column begins in a row, and its width, in bytes.
-#[derive(Clone, Copy, Debug)]
+#[derive(Clone, Copy)]
 pub struct CellPlace {
     pub offset: u16,
     pub width: u8,
 }
 
 /// Where a table begins in the stream, how many rows it has, their width in bytes, and its columns.
-#[derive(Clone, Copy, Debug)]
+#[derive(Clone, Copy)]
 pub struct TablePlace {
     pub start: usize,
     pub rows: u32,

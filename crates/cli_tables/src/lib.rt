@@ -15,6 +15,3 @@ pub use schema::{CODED_TABLES, CodedIndex, Column, TABLE_COUNT, TABLES, TAG_BITS
 pub use tables::Tables;
 pub use text_faults::TextFaults;
 pub use widths::width_of;
-
-#[cfg(test)]
-mod tests;

@@ -3,7 +3,7 @@ ghost use Rattle.std.specs.Prelude.{◌≡◌, ◌<◌, ◌≤◌, length};
 ghost use Rattle.cli_tables.specs.Schema as spec;
 
 /// What a column holds.
-#[derive(Clone, Copy, Debug, PartialEq, Eq)]
+#[derive(Clone, Copy)]
 pub enum Column {
     /// A number of 1 byte.
     U8,
@@ -26,7 +26,7 @@ pub enum Column {
 }
 
 /// The coded indexes (II.24.2.6): the low bits of the number are a tag, which means a table, and the rest is a row.
-#[derive(Clone, Copy, Debug, PartialEq, Eq)]
+#[derive(Clone, Copy)]
 pub enum CodedIndex {
     TypeDefOrRef,
     HasConstant,

@@ -6,14 +6,14 @@ ghost use Rattle.cli_tables.specs.Streams.{name_len, name_at, header_len, range_
 use clr_base::{FaultKind, ImageFault, read_u32};
 
 /// Where a stream lies in the metadata: `len` bytes from `start` on.
-#[derive(Clone, Copy, Debug, PartialEq, Eq)]
+#[derive(Clone, Copy)]
 pub struct Range {
     pub start: u32,
     pub len: u32,
 }
 
 /// The streams that are read, as far as they are there.
-#[derive(Clone, Copy, Debug, PartialEq, Eq)]
+#[derive(Clone, Copy)]
 pub struct Streams {
     pub tables: Option<Range>,
     pub strings: Option<Range>,
@@ -23,7 +23,7 @@ pub struct Streams {
 }
 
 /// What a stream's name means.
-#[derive(Clone, Copy, Debug, PartialEq, Eq)]
+#[derive(Clone, Copy)]
 pub enum StreamKind {
     Tables,
     Strings,

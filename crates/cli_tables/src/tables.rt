@@ -22,7 +22,7 @@ use std::marker::Model;
 
 /// Metadata (ECMA-335 II.24): the tables of `#~` and the heaps. It is seen as the contents of its streams; where each
 /// table and column stands was worked out once.
-#[derive(Debug, Drop)]
+#[derive(Drop)]
 pub struct Tables<'a> {
     tables: &'a [u8],
     strings: &'a [u8],

@@ -14,14 +14,14 @@ const LONGEST_CHAR: usize = 4;
 
 /// What is kept of the faults. In a heap that is all ASCII an index is wrong only where no zero ends its text, so `Ascii` has
 /// the length up to the last zero, that one too. For another heap `Each` has the fault at each byte, if there is one.
-#[derive(Debug, Drop)]
+#[derive(Drop)]
 enum Found {
     Ascii(usize),
     Each(Vec<Option<FaultKind>>),
 }
 
 /// What is wrong with the text at each index of `#Strings`, if anything is.
-#[derive(Debug, Drop)]
+#[derive(Drop)]
 pub struct TextFaults {
     found: Found,
 }

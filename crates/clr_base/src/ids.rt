@@ -1,25 +1,25 @@
 //! Numbers of the things that a world has, each a type of its own.
 
 /// The number of a type definition, from 0: the core library's first, then each file's TypeDef rows.
-#[derive(Clone, Copy, Debug, PartialEq, Eq)]
+#[derive(Clone, Copy, PartialEq, Eq)]
 pub struct DefId(pub u32);
 
 /// The number of a method, from 0, counted like definitions.
-#[derive(Clone, Copy, Debug, PartialEq, Eq)]
+#[derive(Clone, Copy, PartialEq, Eq)]
 pub struct MethId(pub u32);
 
 /// The number of a field, from 0, counted like definitions.
-#[derive(Clone, Copy, Debug, PartialEq, Eq)]
+#[derive(Clone, Copy, PartialEq, Eq)]
 pub struct FieldId(pub u32);
 
 /// The number of a signature, from 0.
-#[derive(Clone, Copy, Debug, PartialEq, Eq)]
+#[derive(Clone, Copy, PartialEq, Eq)]
 pub struct SigId(pub u32);
 
 /// The number of a name, from 0.
-#[derive(Clone, Copy, Debug, PartialEq, Eq)]
+#[derive(Clone, Copy, PartialEq, Eq)]
 pub struct NameId(pub u32);
 
 /// What a loader answers for a type or method that it has loaded.
-#[derive(Clone, Copy, Debug, PartialEq, Eq)]
+#[derive(Clone, Copy, PartialEq, Eq)]
 pub struct Handle(pub u32);

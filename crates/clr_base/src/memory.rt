@@ -1,7 +1,7 @@
 //! A shelf and a sink in memory, which tell what they hold and fail by a script.
-ghost use Rattle.std.specs.Prelude.{◌≡◌, ◌+◌, ◌-◌, ◌<◌, ◌≤◌, ◌↔◌, ◌⊎◌, ℕ, [], Some, None, IfOk, OnOk, IsErr, IsErrOf, Contains, length, min, vec_len, vec_capacity};
+ghost use Rattle.std.specs.Prelude.{◌≡◌, ◌+◌, ◌-◌, ◌<◌, ◌≤◌, ◌↔◌, ◌⊎◌, ℕ, [], Some, None, IfOk, IsErr, IsErrOf, Contains, length, min, vec_len, vec_capacity};
 ghost use Rattle.std.specs.Option.{option_copied};
-ghost use Rattle.clr_base.specs.Causes.{HasCause, FetchHasCause, counted};
+ghost use Rattle.clr_base.specs.Causes.{HasCause, FetchHasCause, Counts, FetchCounts, counted};
 ghost use Rattle.clr_base.specs.Content.{Takes};
 ghost use Rattle.clr_base.specs.Files.{named, held};
 
@@ -10,7 +10,7 @@ use crate::outside::{Failed, FetchFault, Shelf, Sink};
 use std::alloc::{AllocError, Global};
 
 /// A file's name and what it holds.
-#[derive(Debug, Drop)]
+#[derive(Drop)]
 pub struct MemFile {
     pub name: Text,
     pub bytes: Bytes,
@@ -58,7 +58,7 @@ impl Shelf for MemShelf {
         ensures marked { Contains self.old.failing.items self.old.calls → IsErrOf result FetchFault.Failed }
         ensures missing { held self.old.files.items name.now ≡ None → IsErrOf result FetchFault.Failed }
         ensures only { IsErrOf result FetchFault.Failed → Contains self.old.failing.items self.old.calls ⊎ (held self.old.files.items name.now ≡ None) }
-        ensures faultless { OnOk result (self.new.fault_count ≡ self.old.fault_count) }
+        ensures counts_faults { FetchCounts self.old.fault_count self.new.fault_count result }
         ensures counts { self.new.calls ≡ counted self.old.calls }
     {
         let call = self.calls;
@@ -126,7 +126,7 @@ impl Sink for MemSink {
     fn put(&mut self, piece: &[u8]) -> Result<usize, Failed>
         ensures taken { Takes (Some self.old.bytes.items) (Some self.new.bytes.items) result piece.now }
         ensures cause { HasCause self.old.fault_count self.new.fault_count result }
-        ensures faultless { OnOk result (self.new.fault_count ≡ self.old.fault_count) }
+        ensures counts_faults { Counts self.old.fault_count self.new.fault_count result }
         ensures marked { Contains self.old.failing.items self.old.calls → IsErr result }
         ensures full { vec_len self.old.bytes ≡ self.old.capacity → IsErr result }
         ensures only { IsErr result → Contains self.old.failing.items self.old.calls ⊎ (vec_len self.old.bytes ≡ self.old.capacity) }

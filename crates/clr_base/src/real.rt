@@ -1,5 +1,7 @@
 //! Real files, and any writer: the trusted edge. They don't tell what they hold.
-ghost use Rattle.std.specs.Prelude.{◌≡◌, None};
+ghost use Rattle.std.specs.Prelude.{◌≡◌, ◌<◌, ◌≤◌, None, IfOk, length};
+ghost use Rattle.clr_base.specs.Causes.{HasCause, FetchHasCause, Counts, FetchCounts};
+ghost use Rattle.clr_base.specs.Files.{IsFile};
 
 use crate::outside::{Failed, FetchFault, Shelf, Sink};
 use std::alloc::Global;
@@ -51,7 +53,11 @@ impl<R: Files> Shelf for FileShelf<'_, R> {
 
     ghost faults = { λ s. s.fault_count };
 
-    fn fetch(&mut self, alloc: Global, name: &str) -> Result<Vec<u8>, FetchFault> {
+    fn fetch(&mut self, alloc: Global, name: &str) -> Result<Vec<u8>, FetchFault>
+        ensures bytes { IfOk result (λ bytes. IsFile None name.now bytes.items) }
+        ensures cause { FetchHasCause self.old.fault_count self.new.fault_count result }
+        ensures counts_faults { FetchCounts self.old.fault_count self.new.fault_count result }
+    {
         match read_file(self.files, alloc, name) {
             Ok(Some(bytes)) => return Ok(bytes),
             Ok(None) => {}
@@ -90,7 +96,11 @@ impl<W: Write> Sink for StreamSink<W> {
 
     ghost faults = { λ s. s.fault_count };
 
-    fn put(&mut self, piece: &[u8]) -> Result<usize, Failed> {
+    fn put(&mut self, piece: &[u8]) -> Result<usize, Failed>
+        ensures taken { IfOk result (λ n. (n ≤ length piece.now) × (0 < length piece.now → 0 < n)) }
+        ensures cause { HasCause self.old.fault_count self.new.fault_count result }
+        ensures counts_faults { Counts self.old.fault_count self.new.fault_count result }
+    {
         if piece.is_empty() {
             return Ok(0);
         }
@@ -101,41 +111,5 @@ impl<W: Write> Sink for StreamSink<W> {
                 Err(Failed)
             }
         }
-    }
-}
-
-#[cfg(test)]
-mod tests {
-    use super::*;
-    use std::test::Fail;
-    use std::{fs, process};
-
-    #[test]
-    fn a_real_file_is_written_and_fetched(rt: HostRuntime) -> Result<(), Fail> {
-        let alloc = rt.alloc();
-        let number = process::id(rt.process());
-        let name = format!(in alloc; "/tmp/clr_base_{number}")?;
-        let mut sink = StreamSink::new(File::create(&rt, &name)?);
-        assert_eq!(rt; sink.put(b"")?, 0);
-        assert_eq!(rt; sink.put(b"metadata")?, 8);
-        let mut shelf = FileShelf::new(&rt);
-        let bytes = shelf.fetch(alloc, &name)?;
-        assert_eq!(rt; bytes.as_slice(), b"metadata".as_slice());
-        sink.writer.set_len(GREATEST_FILE + 1)?;
-        assert_eq!(rt; shelf.fetch(alloc, &name).err(), Some(FetchFault::Failed));
-        fs::remove_file(&rt, &name)?;
-        assert_eq!(rt; shelf.fetch(alloc, &name).err(), Some(FetchFault::Failed));
-        assert_eq!(rt; (sink.fault_count, shelf.fault_count), (0, 2));
-        Ok(())
-    }
-
-    #[test]
-    fn a_real_stream_that_is_full_counts_its_faults(rt: HostRuntime) -> Result<(), Fail> {
-        let full = fs::OpenOptions::new().write(true).open(&rt, "/dev/full")?;
-        let mut sink = StreamSink::new(full);
-        assert_eq!(rt; sink.put(b"metadata"), Err(Failed));
-        assert_eq!(rt; sink.put(b"metadata"), Err(Failed));
-        assert_eq!(rt; sink.fault_count, 2);
-        Ok(())
     }
 }

@@ -5,20 +5,18 @@ use Rattle.clr_base.specs.declared.image_fault.ImageFault.{ImageFault}
 use Rattle.clr_base.specs.Checks.{first_fault}
 use Rattle.cli_tables.specs.Metadata.{Metadata}
 use Rattle.image_rows.specs.Image.{metadata_in}
-use Rattle.world_build.specs.Images.{file_checks, images_behind, images_of, or_fault}
-use Rattle.world_build.specs.Build.{GivesWorld}
-use Rattle.world_build.specs.declared.building.BuildFault.{BuildFault}
-use Rattle.world_build.specs.declared.building.BuildFault.TheVariants.{Image}
-use Rattle.world_build.specs.declared.roots.RootForm.{RootForm}
+use Rattle.world_build.specs.Images.{GivesImages, file_checks, images_behind, images_of, or_fault}
+use Rattle.world_build.specs.declared.images.ImagesFault.{ImagesFault}
+use Rattle.world_build.specs.declared.images.ImagesFault.TheVariants.{Image}
 use Rattle.clr_core.specs.Command.{named_files}
 use Rattle.clr_core.specs.Ends.{Run, End, Done, Usage, ReadFault, BadImage, WriteFault, Memory, Happened, IsUntouched, StopsChecks, StopsFetch, Judged}
 use Rattle.clr_core.specs.Fetched.{AreFiles}
 use Rattle.clr_core.specs.Names.{names_of, names_text, text_or_fault}
 
 -- the fault that is answered is the one of the checks
-pub given_image : (x : BuildFault) (number : ℕ) (fault : ImageFault) (files roots : List (List ℕ)) (form : RootForm) → x ≡ Image number fault
-    → GivesWorld files form roots (Err x) → images_of files ≡ Err (number, fault)
-given_image x number fault files roots form is gives = subst (λ r. GivesWorld files form roots (Err r)) is gives
+pub given_image : (x : ImagesFault) (number : ℕ) (fault : ImageFault) (files : List (List ℕ)) → x ≡ Image number fault
+    → GivesImages (Err x) (images_of files) → images_of files ≡ Err (number, fault)
+given_image x number fault files is gives = subst (λ r. GivesImages (Err r) (images_of files)) is gives
 
 -- the number of a file that is refused is that of one of them
 refused_here : (here number : ℕ) (o : Result (Unit {0}) ImageFault) (behind : Result (List Metadata) (ℕ × ImageFault)) (fault : ImageFault)

@@ -6,6 +6,7 @@ use Rattle.clr_base.specs.Causes.{Rose}
 use Rattle.clr_base.specs.Content.{then_bytes}
 use Rattle.clr_base.specs.declared.image_fault.ImageFault.{ImageFault}
 use Rattle.clr_base.specs.declared.image_fault.FaultKind.TheVariants.{NotPe}
+use Rattle.clr_core.specs.Answers.{Answers}
 use Rattle.clr_core.specs.Command.{named_files}
 use Rattle.clr_core.specs.Fetched.{Files, AreFiles, IsUnread, all_held}
 use Rattle.clr_core.specs.Lines.{unread_line, refused_line}
@@ -31,7 +32,7 @@ is_usage run (BadImage file fault) s is h none = cc (h.0.judged.named)
 is_usage run WriteFault s is (text, judged, prefix, rose) none = cc (judged.named)
 is_usage run Memory s is h none = let lost : false ≡ true = subst (λ (o : Option (List (List ℕ))). IsSome o) none h.0 in cc
 
-pub usage : (run : Run) (err : Written) (s : Status) → EndsWith run err s → (s ≡ status.Usage) ↔ (named_files run.words ≡ None)
+usage : (run : Run) (err : Written) (s : Status) → EndsWith run err s → (s ≡ status.Usage) ↔ (named_files run.words ≡ None)
 usage run err s ends = (no_command run ends.end s ends.is ends.happened, is_usage run ends.end s ends.is ends.happened)
 
 -- A read fault has its cause.
@@ -43,7 +44,7 @@ read_by run (BadImage file fault) s is h e = cc
 read_by run WriteFault s is h e = cc
 read_by run Memory s is h e = cc
 
-pub read_fault : (run : Run) (err : Written) (s : Status) → EndsWith run err s → s ≡ status.ReadFault → Rose run.shelf.faults_before run.shelf.faults_now
+read_fault : (run : Run) (err : Written) (s : Status) → EndsWith run err s → s ≡ status.ReadFault → Rose run.shelf.faults_before run.shelf.faults_now
 read_fault run err s ends = read_by run ends.end s ends.is ends.happened
 
 -- A write fault has its cause.
@@ -55,7 +56,7 @@ write_by run (BadImage file fault) s is h e = cc
 write_by run WriteFault s is (text, judged, prefix, rose) e = rose
 write_by run Memory s is h e = cc
 
-pub write_fault : (run : Run) (err : Written) (s : Status) → EndsWith run err s → s ≡ status.WriteFault → Rose run.out.faults_before run.out.faults_now
+write_fault : (run : Run) (err : Written) (s : Status) → EndsWith run err s → s ≡ status.WriteFault → Rose run.out.faults_before run.out.faults_now
 write_fault run err s ends = write_by run ends.end s ends.is ends.happened
 
 -- Nothing is written unless the run came to its write.
@@ -67,7 +68,7 @@ out_by run (BadImage file fault) s is h not_done not_write = h.1.content
 out_by run WriteFault s is h not_done not_write = absurd (not_write (sym is))
 out_by run Memory s is h not_done not_write = h.1.content
 
-pub out_untouched : (run : Run) (err : Written) (s : Status) → EndsWith run err s → s ≢ status.Done → s ≢ status.WriteFault → run.out.now ≡ run.out.before
+out_untouched : (run : Run) (err : Written) (s : Status) → EndsWith run err s → s ≢ status.Done → s ≢ status.WriteFault → run.out.now ≡ run.out.before
 out_untouched run err s ends = out_by run ends.end s ends.is ends.happened
 
 -- the line of each status
@@ -99,7 +100,7 @@ line_by run err (BadImage file fault) s is h tells not_done =
 line_by run err WriteFault s is h tells not_done = (0, any_fault, said err s status.WriteFault (the_file run.words 0) (the_file run.words 0) any_fault is refl tells)
 line_by run err Memory s is h tells not_done = (0, any_fault, said err s status.Memory (the_file run.words 0) (the_file run.words 0) any_fault is refl tells)
 
-pub line : (run : Run) (err : Written) (s : Status) → EndsWith run err s → s ≢ status.Done
+line : (run : Run) (err : Written) (s : Status) → EndsWith run err s → s ≢ status.Done
     → (number : ℕ) × (fault : ImageFault) × Says err (line_of s (the_file run.words number) fault)
 line run err s ends = line_by run err ends.end s ends.is ends.happened ends.line
 
@@ -114,7 +115,7 @@ unread_by run err (BadImage file fault) s is h tells e = cc
 unread_by run err WriteFault s is h tells e = cc
 unread_by run err Memory s is h tells e = cc
 
-pub unread : (run : Run) (err : Written) (s : Status) → EndsWith run err s → s ≡ status.ReadFault
+unread : (run : Run) (err : Written) (s : Status) → EndsWith run err s → s ≡ status.ReadFault
     → (file : List ℕ) × IsUnread run.shelf (the_files run.words) file × Says err (unread_line file)
 unread run err s ends = unread_by run err ends.end s ends.is ends.happened ends.line
 
@@ -127,7 +128,7 @@ err_by err (BadImage file fault) s is tells e = cc
 err_by err WriteFault s is tells e = cc
 err_by err Memory s is tells e = cc
 
-pub err_untouched : (run : Run) (err : Written) (s : Status) → EndsWith run err s → s ≡ status.Done → err.now ≡ err.before
+err_untouched : (run : Run) (err : Written) (s : Status) → EndsWith run err s → s ≡ status.Done → err.now ≡ err.before
 err_untouched run err s ends = err_by err ends.end s ends.is ends.line
 
 counts_by : (err : Written) (end : End) → Tells err end → err.faults_before ≤ err.faults_now
@@ -138,7 +139,7 @@ counts_by err (BadImage file fault) tells = tells.later
 counts_by err WriteFault tells = tells.later
 counts_by err Memory tells = tells.later
 
-pub err_counts : (run : Run) (err : Written) (s : Status) → EndsWith run err s → err.faults_before ≤ err.faults_now
+err_counts : (run : Run) (err : Written) (s : Status) → EndsWith run err s → err.faults_before ≤ err.faults_now
 err_counts run err s ends = counts_by err ends.end ends.line
 
 -- The bytes that were judged are the ones that the shelf tells.
@@ -166,7 +167,7 @@ bad_by run err (BadImage file fault) s bytes is h tells e b =
 bad_by run err WriteFault s bytes is h tells e b = cc
 bad_by run err Memory s bytes is h tells e b = cc
 
-pub bad_image : (run : Run) (err : Written) (s : Status) → EndsWith run err s → (bytes : List (List ℕ)) → told_bytes run.shelf.before run.words ≡ Some bytes
+bad_image : (run : Run) (err : Written) (s : Status) → EndsWith run err s → (bytes : List (List ℕ)) → told_bytes run.shelf.before run.words ≡ Some bytes
     → s ≡ status.BadImage
     → (number : ℕ) × (fault : ImageFault) × (told_names run.words bytes ≡ Err (number, fault)) × Says err (refused_line (the_file run.words number) fault)
 bad_image run err s ends bytes = bad_by run err ends.end s bytes ends.is ends.happened ends.line
@@ -186,7 +187,7 @@ refused_by run (BadImage file other) s bytes number fault is h e bad calm = inl 
 refused_by run WriteFault s bytes number fault is (text, judged, prefix, rose) e bad calm = let good = told_answer run bytes (Ok text) judged e in cc
 refused_by run Memory s bytes number fault is h e bad calm = inr (sym is)
 
-pub refused : (run : Run) (err : Written) (s : Status) → EndsWith run err s → (bytes : List (List ℕ)) (number : ℕ) (fault : ImageFault)
+refused : (run : Run) (err : Written) (s : Status) → EndsWith run err s → (bytes : List (List ℕ)) (number : ℕ) (fault : ImageFault)
     → told_bytes run.shelf.before run.words ≡ Some bytes → told_names run.words bytes ≡ Err (number, fault)
     → ¬ (Rose run.shelf.faults_before run.shelf.faults_now) → (s ≡ status.BadImage) ⊎ (s ≡ status.Memory)
 refused run err s ends bytes number fault = refused_by run ends.end s bytes number fault ends.is ends.happened
@@ -202,7 +203,7 @@ done_by run (BadImage file fault) s bytes is h e d = cc
 done_by run WriteFault s bytes is h e d = cc
 done_by run Memory s bytes is h e d = cc
 
-pub done : (run : Run) (err : Written) (s : Status) → EndsWith run err s → (bytes : List (List ℕ)) → told_bytes run.shelf.before run.words ≡ Some bytes
+done : (run : Run) (err : Written) (s : Status) → EndsWith run err s → (bytes : List (List ℕ)) → told_bytes run.shelf.before run.words ≡ Some bytes
     → s ≡ status.Done → (text : List ℕ) × (told_names run.words bytes ≡ Ok text) × (run.out.now ≡ then_bytes run.out.before text)
 done run err s ends bytes = done_by run ends.end s bytes ends.is ends.happened
 
@@ -217,8 +218,27 @@ complete_by run (BadImage file fault) s bytes text is h e good calm quiet = let 
 complete_by run WriteFault s bytes text is (t, judged, prefix, rose) e good calm quiet = absurd (quiet rose)
 complete_by run Memory s bytes text is h e good calm quiet = inr (sym is)
 
-pub complete : (run : Run) (err : Written) (s : Status) → EndsWith run err s → (bytes : List (List ℕ)) (text : List ℕ)
+complete : (run : Run) (err : Written) (s : Status) → EndsWith run err s → (bytes : List (List ℕ)) (text : List ℕ)
     → told_bytes run.shelf.before run.words ≡ Some bytes → told_names run.words bytes ≡ Ok text
     → ¬ (Rose run.shelf.faults_before run.shelf.faults_now) → ¬ (Rose run.out.faults_before run.out.faults_now)
     → (s ≡ status.Done) ⊎ (s ≡ status.Memory)
 complete run err s ends bytes text = complete_by run ends.end s bytes text ends.is ends.happened
+
+-- all of it
+pub answers : (run : Run) (err : Written) (s : Status) → EndsWith run err s → Answers run err s
+answers run err s ends = record {
+  ends = ends;
+  usage = usage run err s ends;
+  read_fault = read_fault run err s ends;
+  unread = unread run err s ends;
+  write_fault = write_fault run err s ends;
+  bad_image = bad_image run err s ends;
+  refused = refused run err s ends;
+  done = done run err s ends;
+  complete = complete run err s ends;
+  out_untouched = out_untouched run err s ends;
+  err_untouched = err_untouched run err s ends;
+  shelf_kept = ends.keeps.files;
+  counts = (ends.keeps.reads, ends.keeps.writes, err_counts run err s ends);
+  line = line run err s ends;
+}

@@ -1,11 +1,9 @@
 -- What `names` writes of files.
-use Rattle.std.specs.Prelude.{ℕ, ◌+◌, List, ◌++◌, map, codes, Result, Ok, Err}
-use Rattle.std.specs.List.{flat_map, enumerate_from, zip}
+use Rattle.std.specs.Prelude.{ℕ, List, ◌++◌, map, codes, Result, Ok, Err}
+use Rattle.std.specs.List.{flat_map, zip}
 use Rattle.clr_base.specs.declared.image_fault.ImageFault.{ImageFault}
 use Rattle.cli_tables.specs.Metadata.{Metadata}
-use Rattle.type_tree.specs.World.{Facts}
 use Rattle.image_rows.specs.Cells.{rows_of}
-use Rattle.world_build.specs.DefNames.{names_in}
 use Rattle.world_build.specs.Images.{images_of}
 use Rattle.image_rows.specs.TypeNames.{full_name}
 
@@ -34,7 +32,3 @@ text_or_fault files (Err refusal) = Err refusal
 -- first fault.
 abbrev pub names_of : List (List ℕ) → List (List ℕ) → Result (List ℕ) (ℕ × ImageFault)
 names_of files bytes = text_or_fault files (images_of bytes)
-
--- the text of a world, by the words of its files, which count from 1
-unfoldable pub world_text : List (List ℕ) → Facts → List ℕ
-world_text files w = flat_map (λ file. file_text file.1 (names_in w (file.0 + 1))) (enumerate_from 0 files)

@@ -1,21 +1,11 @@
-//! Tests of the whole program over memory: worked examples, and cases that cross crates.
+//! Tests alone, where neither a clause nor an example reaches: the edge to the system, what fails outside, and the writer.
 #![tactic(auto)]
 
 #[cfg(test)]
-mod checks;
+mod edge;
 #[cfg(test)]
-mod files;
+mod outside;
 #[cfg(test)]
-mod image;
+mod smallest;
 #[cfg(test)]
-mod names;
-#[cfg(test)]
-mod refused_rows;
-#[cfg(test)]
-mod refused_signatures;
-#[cfg(test)]
-mod run;
-#[cfg(test)]
-mod schema;
-#[cfg(test)]
-mod written;
+mod writer;

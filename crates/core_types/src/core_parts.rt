@@ -16,7 +16,7 @@ use std::alloc::Global;
 use type_tree::{Def, Field, Formal, Method, Ty, TyList};
 
 /// The parts of a world that are the core library's.
-#[derive(Debug, Drop)]
+#[derive(Drop)]
 pub struct CoreParts {
     /// Its names.
     pub names: Names,

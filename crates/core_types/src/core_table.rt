@@ -3,7 +3,7 @@
 use crate::core_type::CoreType;
 
 /// What a definition is, which tells its flags (ECMA-335 II.23.1.15).
-#[derive(Clone, Copy, Debug)]
+#[derive(Clone, Copy)]
 pub enum DefKind {
     Class,
     Abstract,
@@ -16,14 +16,14 @@ pub enum DefKind {
 }
 
 /// The generic parameter of a definition (II.23.1.7).
-#[derive(Clone, Copy, Debug)]
+#[derive(Clone, Copy)]
 pub enum FormalKind {
     Invariant,
     Contravariant,
 }
 
 /// A definition. Its generic parameter is the only one, and has no constraints.
-#[derive(Clone, Copy, Debug)]
+#[derive(Clone, Copy)]
 pub struct CoreDef {
     pub kind: DefKind,
     pub parent: Option<CoreType>,
@@ -33,7 +33,7 @@ pub struct CoreDef {
 }
 
 /// What a method is, which tells its flags (II.23.1.10). All are public.
-#[derive(Clone, Copy, Debug)]
+#[derive(Clone, Copy)]
 pub enum MethodKind {
     /// Called on an instance, and not virtual.
     Instance,
@@ -50,7 +50,7 @@ pub enum MethodKind {
 
 /// The names of methods. They are numbered behind those of the definitions, in the order in which they
 /// are first seen.
-#[derive(Clone, Copy, Debug)]
+#[derive(Clone, Copy)]
 pub enum MemberName {
     Ctor,
     ToString,
@@ -71,7 +71,7 @@ pub enum MemberName {
 }
 
 /// A type in the signature of a method.
-#[derive(Clone, Copy, Debug)]
+#[derive(Clone, Copy)]
 pub enum SigType {
     Core(CoreType),
     /// The generic parameter of the method's definition.
@@ -79,7 +79,7 @@ pub enum SigType {
 }
 
 /// The types of a method's parameters.
-#[derive(Clone, Copy, Debug)]
+#[derive(Clone, Copy)]
 pub enum Params {
     Zero,
     One(SigType),
@@ -88,7 +88,7 @@ pub enum Params {
 }
 
 /// A method. None has generic parameters.
-#[derive(Clone, Copy, Debug)]
+#[derive(Clone, Copy)]
 pub struct CoreMethod {
     pub name: MemberName,
     pub kind: MethodKind,

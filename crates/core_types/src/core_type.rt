@@ -6,7 +6,7 @@ ghost use Rattle.core_types.specs.CoreTable as spec;
 use clr_base::DefId;
 
 /// A type of the core library. They are numbered from 0 in this order.
-#[derive(Clone, Copy, Debug, PartialEq, Eq)]
+#[derive(Clone, Copy)]
 pub enum CoreType {
     Object,
     ValueType,

@@ -12,7 +12,7 @@ use std::marker::Model;
 use type_tree::with_room;
 
 /// Names, which are found by hashing. Contracts see them as the list of their texts.
-#[derive(Debug, Drop)]
+#[derive(Drop)]
 pub struct Names {
     set: IndexSet<String>,
 }

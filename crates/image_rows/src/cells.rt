@@ -6,7 +6,7 @@ ghost use Rattle.image_rows.specs.Cells as spec;
 use cli_tables::{CodedIndex, Tables};
 
 /// A row of a table, from 1.
-#[derive(Clone, Copy, Debug, PartialEq, Eq)]
+#[derive(Clone, Copy)]
 pub struct RowOf {
     pub table: u8,
     pub row: u32,

@@ -19,7 +19,7 @@ use indexmap::IndexMap;
 use std::alloc::Global;
 
 /// What signature stands in a column.
-#[derive(Clone, Copy, Debug)]
+#[derive(Clone, Copy)]
 pub enum SigKind {
     Field,
     Method,
@@ -33,7 +33,7 @@ pub enum SigKind {
 }
 
 /// A column of signatures.
-#[derive(Clone, Copy, Debug)]
+#[derive(Clone, Copy)]
 pub struct SigColumn {
     pub table: u8,
     pub column: u8,

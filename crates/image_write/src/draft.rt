@@ -10,7 +10,7 @@ pub type CellList = Items<u32>;
 pub type TableList = Items<CellList>;
 
 /// The tables and heaps of an assembly, and the bytes behind its metadata.
-#[derive(Debug, Drop)]
+#[derive(Drop)]
 pub struct Draft {
     /// PE32+ instead of PE32.
     pub plus: bool,

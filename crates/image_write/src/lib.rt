@@ -8,8 +8,6 @@ mod layout;
 mod metadata;
 mod pieces;
 mod rows;
-#[cfg(test)]
-mod tests;
 mod write;
 mod write_fault;
 

@@ -30,7 +30,7 @@ fn len_of_body(bytes: &[u8], at: usize) -> Option<u64>
 }
 
 /// Where the header and the code of a method body stand in the file.
-#[derive(Clone, Copy, Debug, PartialEq, Eq)]
+#[derive(Clone, Copy)]
 pub struct BodyRange {
     /// The first byte, counted from the file's own.
     pub start: usize,

@@ -8,6 +8,3 @@ mod sections;
 
 pub use bodies::{BodyRange, body_at, body_range};
 pub use locate::{Places, metadata};
-
-#[cfg(test)]
-mod tests;

@@ -11,7 +11,7 @@ const CLI_HEADER_LEN: u32 = 72;
 
 /// The place in the file and the length of the metadata, and the place and number of the section headers, in bytes
 /// from the file's begin.
-#[derive(Clone, Copy, Debug, PartialEq, Eq)]
+#[derive(Clone, Copy)]
 pub struct Places {
     pub meta_start: u64,
     pub meta_len: u32,

@@ -12,7 +12,7 @@ use image_rows::{
 use std::alloc::Global;
 
 /// Indexes of a file's rows.
-#[derive(Debug, Drop)]
+#[derive(Drop)]
 pub struct FileRows {
     /// InterfaceImpl by the TypeDef row of the class.
     pub interfaces: RowIndex,

@@ -10,7 +10,7 @@ use sqlite_items::Items;
 use std::alloc::Global;
 
 /// The members of one definition, methods or fields, by their names, which are found by hashing.
-#[derive(Debug, Drop)]
+#[derive(Drop)]
 pub struct MemberGroups {
     by_name: IndexMap<u32, Items<u32>>,
 }

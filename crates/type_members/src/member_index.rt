@@ -18,7 +18,7 @@ use type_tree::{Field, Method, Ty, with_room};
 const FEW: u32 = 32;
 
 /// The own methods and fields of each definition by their names. A definition with few of them has no groups.
-#[derive(Debug, Drop)]
+#[derive(Drop)]
 pub struct MemberIndex {
     methods: Items<Option<MemberGroups>>,
     fields: Items<Option<MemberGroups>>,

@@ -4,7 +4,7 @@ use sqlite_items::Items;
 use type_tree::{Field, Method};
 
 /// Which fields and methods a definition owns: they stand one after the other.
-#[derive(Clone, Copy, Debug, PartialEq, Eq)]
+#[derive(Clone, Copy, PartialEq, Eq)]
 pub struct Run {
     pub first_field: u32,
     pub fields: u32,
@@ -13,7 +13,7 @@ pub struct Run {
 }
 
 /// All methods and fields, each at its number, and the runs of each definition.
-#[derive(Debug, Drop)]
+#[derive(Drop)]
 pub struct MemberTable {
     pub runs: Items<Run>,
     pub methods: Items<Method>,

@@ -12,7 +12,7 @@ use type_tree::{Method, Ty, TyList, same_all};
 
 /// What is compared of a method (ECMA-335 II.23.2.1, II.23.2.2). Its trees are open: in the generic parameters of the
 /// definition that owns it, and in its own.
-#[derive(Debug, Drop)]
+#[derive(Drop)]
 pub struct Open {
     /// Whether it is called on an instance.
     pub has_this: bool,

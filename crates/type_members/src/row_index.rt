@@ -10,7 +10,7 @@ use sqlite_items::Items;
 use std::alloc::Global;
 
 /// The rows of one table by the number that stands in one of their columns.
-#[derive(Debug, Drop)]
+#[derive(Drop)]
 pub struct RowIndex {
     groups: IndexMap<u32, Items<u32>>,
 }

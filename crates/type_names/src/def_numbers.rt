@@ -14,7 +14,7 @@ use std::marker::Model;
 
 /// The number of the definition in the first TypeDef row of each file, and the number behind those of all files. It is seen
 /// as the files.
-#[derive(Debug, Drop)]
+#[derive(Drop)]
 pub(crate) struct DefNumbers<'a> {
     files: &'a [Tables<'a>],
     firsts: Items<u32>,

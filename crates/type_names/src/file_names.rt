@@ -5,7 +5,7 @@ use clr_base::NameId;
 use sqlite_items::Items;
 
 /// The numbers of the names that the rows of a file have, row by row.
-#[derive(Debug, Drop)]
+#[derive(Drop)]
 pub struct FileNames {
     /// The full names of the definitions in the TypeDef rows.
     pub defs: Items<NameId>,

@@ -13,7 +13,7 @@ use core_types::Names;
 use sqlite_items::Items;
 
 /// Finds the types of the core and of files.
-#[derive(Debug, Drop)]
+#[derive(Drop)]
 pub(crate) struct TypeFinder<'a> {
     pub files: &'a [Tables<'a>],
     /// The texts that have numbers.

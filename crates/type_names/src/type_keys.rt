@@ -9,7 +9,7 @@ use std::alloc::Global;
 
 /// What a type is called: the row of the definition around it, 0 where there is none, and the numbers of the texts that are
 /// its namespace and its name.
-#[derive(Clone, Copy, Debug, PartialEq, Eq, Hash)]
+#[derive(Clone, Copy, PartialEq, Eq, Hash)]
 pub(crate) struct TypeKey {
     pub around: u32,
     pub namespace: u32,
@@ -17,7 +17,7 @@ pub(crate) struct TypeKey {
 }
 
 /// The first place of each name in a list of names, found by hashing.
-#[derive(Debug, Drop)]
+#[derive(Drop)]
 pub(crate) struct FirstPlaces {
     places: IndexMap<TypeKey, u32>,
 }

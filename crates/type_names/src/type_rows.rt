@@ -4,14 +4,14 @@ use clr_base::{DefId, NameId};
 use sqlite_items::Items;
 
 /// What a TypeRef row names (ECMA-335 II.22.38): a definition, or the name of one that is missing.
-#[derive(Clone, Copy, Debug, PartialEq, Eq)]
+#[derive(Clone, Copy)]
 pub enum Target {
     Def(DefId),
     Missing(NameId),
 }
 
 /// The definitions that a file's TypeDef rows are, and what its TypeRef rows name.
-#[derive(Debug, Drop)]
+#[derive(Drop)]
 pub struct TypeRows {
     /// The definition in the first TypeDef row; the others follow.
     pub first_def: u32,

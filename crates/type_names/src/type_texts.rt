@@ -27,14 +27,14 @@ const NAME: u8 = 1;
 const NAMESPACE: u8 = 2;
 
 /// The numbers of namespaces and names, one of each for a type.
-#[derive(Debug, Drop)]
+#[derive(Drop)]
 pub(crate) struct NameColumns {
     pub namespaces: Items<NameId>,
     pub names: Items<NameId>,
 }
 
 /// The numbers of a file's texts, row by row.
-#[derive(Debug, Drop)]
+#[derive(Drop)]
 pub(crate) struct FileTexts {
     pub defs: NameColumns,
     pub refs: NameColumns,
@@ -45,7 +45,7 @@ pub(crate) struct FileTexts {
 }
 
 /// The numbers of the core's texts.
-#[derive(Debug, Drop)]
+#[derive(Drop)]
 pub(crate) struct CoreTexts {
     pub types: NameColumns,
     /// The names of assemblies under which the core is found.

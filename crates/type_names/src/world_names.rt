@@ -30,7 +30,7 @@ const FIELD_NAME: u8 = 1;
 const METHOD_NAME: u8 = 3;
 
 /// The names of a world, and what the rows of each of its files are called.
-#[derive(Debug, Drop)]
+#[derive(Drop)]
 pub struct WorldNames {
     pub names: Names,
     pub files: Items<FileNames>,

@@ -8,7 +8,7 @@ use crate::tree::{Key, Ty};
 use clr_base::MethId;
 
 /// How many things of each kind there are.
-#[derive(Clone, Copy, Debug)]
+#[derive(Clone, Copy)]
 pub struct Counts {
     pub names: usize,
     pub defs: usize,

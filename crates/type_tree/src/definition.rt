@@ -5,7 +5,7 @@ use clr_base::{DefId, MethId, NameId};
 use sqlite_items::Items;
 
 /// A type definition (ECMA-335 II.22.37).
-#[derive(Debug, Drop)]
+#[derive(Drop)]
 pub struct Def {
     /// Its full name: `Ns.Name`, or `Name` without a namespace; a nested one's is the outer full name,
     /// `+`, and its name.
@@ -37,7 +37,7 @@ pub struct Def {
 }
 
 /// A generic parameter of a type or a method (ECMA-335 II.22.20).
-#[derive(Debug, Drop)]
+#[derive(Drop)]
 pub struct Formal {
     /// GenericParamAttributes (II.23.1.7).
     pub flags: u32,
@@ -46,7 +46,7 @@ pub struct Formal {
 }
 
 /// A method that is named as the body of another (ECMA-335 II.22.27).
-#[derive(Debug, Drop)]
+#[derive(Drop)]
 pub struct Impl {
     /// The method that is run; none where that member is missing.
     pub body: Option<MethId>,
@@ -57,7 +57,7 @@ pub struct Impl {
 }
 
 /// A method (ECMA-335 II.22.26).
-#[derive(Debug, Drop)]
+#[derive(Drop)]
 pub struct Method {
     pub name: NameId,
     /// The definition that owns it, or 0 where none does.
@@ -77,7 +77,7 @@ pub struct Method {
 }
 
 /// A field (ECMA-335 II.22.15).
-#[derive(Debug, Drop)]
+#[derive(Drop)]
 pub struct Field {
     pub name: NameId,
     /// The definition that owns it, or 0 where none does.

@@ -16,20 +16,12 @@ mod read_text;
 mod room;
 mod subst_measure;
 mod substitution;
-#[cfg(test)]
-mod tests;
 mod text;
-#[cfg(test)]
-mod text_tests;
 mod tokens;
 mod tree;
 mod user_strings;
 mod whole;
 mod world;
-#[cfg(test)]
-mod world_tests;
-#[cfg(test)]
-mod worlds;
 
 pub use canonical::{canon, canon_ty, is_pointer_free, shared_form, shared_forms};
 pub use context::key_of;

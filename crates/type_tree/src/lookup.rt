@@ -10,7 +10,7 @@ use crate::world::World;
 use clr_base::{DefId, NameId};
 
 /// Where a definition stands.
-#[derive(Clone, Copy, Debug, PartialEq, Eq)]
+#[derive(Clone, Copy)]
 pub(crate) enum Place {
     /// In a file.
     Files,

@@ -6,14 +6,14 @@ use clr_base::{Bytes, DefId, FieldId, MethId, SigId, Text};
 use sqlite_items::Items;
 
 /// What a program begins with: a signature, and a method where it is an entry.
-#[derive(Clone, Copy, Debug, PartialEq, Eq)]
+#[derive(Clone, Copy, PartialEq, Eq)]
 pub struct Root {
     pub sig: SigId,
     pub method: Option<MethId>,
 }
 
 /// The member that a token names.
-#[derive(Clone, Copy, Debug, PartialEq, Eq)]
+#[derive(Clone, Copy, PartialEq, Eq)]
 pub enum Member {
     /// The token is a type's.
     NoMember,
@@ -24,7 +24,7 @@ pub enum Member {
 }
 
 /// What a token names.
-#[derive(Clone, Copy, Debug, PartialEq, Eq)]
+#[derive(Clone, Copy, PartialEq, Eq)]
 pub struct Token {
     /// The signature of its row.
     pub sig: SigId,
@@ -34,14 +34,14 @@ pub struct Token {
 }
 
 /// The local variables of a method body: a run of signatures.
-#[derive(Clone, Copy, Debug, PartialEq, Eq)]
+#[derive(Clone, Copy, PartialEq, Eq)]
 pub struct Locals {
     pub first: SigId,
     pub count: u32,
 }
 
 /// Where the header and the code of a method body stand.
-#[derive(Clone, Copy, Debug)]
+#[derive(Clone, Copy)]
 pub struct BodyPlace {
     /// The number of the file, from 1.
     pub file: u32,
@@ -54,7 +54,7 @@ pub struct BodyPlace {
 /// What is kept of a file. Its signatures stand one after the other: one for each TypeDef, TypeRef and
 /// TypeSpec row; the array of each of these, in the same order; one for each Field, MethodDef,
 /// MemberRef and MethodSpec row; one for each local variable.
-#[derive(Debug, Drop)]
+#[derive(Drop)]
 pub struct WorldFile {
     /// The first of its signatures.
     pub first_sig: SigId,
@@ -89,7 +89,7 @@ pub struct WorldFile {
 }
 
 /// What a world is made of, each thing at its number.
-#[derive(Debug, Drop)]
+#[derive(Drop)]
 pub struct WorldParts {
     /// Texts, each once.
     pub names: Items<Text>,

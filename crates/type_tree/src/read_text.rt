@@ -21,7 +21,7 @@ use std::alloc::{AllocError, AllocFailed, Global};
 const MAX_DEPTH: u64 = 64;
 
 /// Why no tree comes of a text.
-#[derive(Clone, Copy, Debug, PartialEq, Eq)]
+#[derive(Clone, Copy)]
 pub(crate) enum Stop {
     /// It is no text of a tree that may be read.
     Refused,

@@ -10,12 +10,12 @@ use sqlite_items::{Boxed, Items, at};
 use std::alloc::Global;
 
 /// The tree at `n`, or `otherwise` past the end.
-fn entry(alloc: Global, list: &[Ty], n: u32, otherwise: Ty) -> Result<Ty, Memory>
-    ensures { IfOk result (λ t. t ≡ spec.entry list.now n otherwise) }
+fn entry(alloc: Global, list: &[Ty], n: u32, otherwise: &Ty) -> Result<Ty, Memory>
+    ensures { IfOk result (λ t. t ≡ spec.entry list.now n otherwise.now) }
 {
     match at(list, n as usize) {
         Some(t) => copy(alloc, t),
-        None => Ok(otherwise),
+        None => copy(alloc, otherwise),
     }
 }
 
@@ -42,8 +42,8 @@ pub fn subst_ty(alloc: Global, t: &Ty, types: &[Ty], methods: &[Ty]) -> Result<T
             let part = subst_ty(alloc, e.get(), types, methods)?;
             Ok(Ty::Ptr(Boxed::new(alloc, part)?))
         }
-        Ty::Var(n) => entry(alloc, types, *n, Ty::Var(*n)),
-        Ty::MVar(n) => entry(alloc, methods, *n, Ty::MVar(*n)),
+        Ty::Var(n) => entry(alloc, types, *n, t),
+        Ty::MVar(n) => entry(alloc, methods, *n, t),
         Ty::Missing(name, value) => Ok(Ty::Missing(*name, *value)),
         Ty::Odd(code) => Ok(Ty::Odd(*code)),
     }

@@ -11,7 +11,7 @@ pub type KeyList = Items<Key>;
 
 /// A type, as a finite tree (ECMA-335 II.23.2.12, Type). Contracts see it as plain data: trees that
 /// have the same shape are equal.
-#[derive(Debug, Drop)]
+#[derive(Drop)]
 pub enum Ty {
     /// A definition with its arguments. A type that is not generic has none.
     Inst(DefId, Items<Ty>),
@@ -33,7 +33,7 @@ pub enum Ty {
 }
 
 /// A method with the type that owns it and with the method's own arguments.
-#[derive(Debug, Drop)]
+#[derive(Drop)]
 pub struct MethKey {
     pub owner: Ty,
     pub method: MethId,
@@ -41,7 +41,7 @@ pub struct MethKey {
 }
 
 /// What is loaded: a type or a method.
-#[derive(Debug, Drop)]
+#[derive(Drop)]
 pub enum Key {
     Tree(Ty),
     Meth(MethKey),

@@ -29,7 +29,7 @@ fn bytes_at<'a>(files: &'a [WorldFile], place: &BodyPlace) -> &'a [u8]
 }
 
 /// A world. Contracts see it as its parts.
-#[derive(Debug, Drop)]
+#[derive(Drop)]
 pub struct World {
     parts: WorldParts,
 }

@@ -13,7 +13,7 @@ use type_tree::World;
 // `Image` is the first fault of the first file that has one, with the file's number, counted from 1; `NoName` the first root
 // word that names nothing.
 /// Why there is no world.
-#[derive(Debug, Drop)]
+#[derive(Drop)]
 pub enum BuildFault {
     Image(u32, ImageFault),
     NoName(Text),

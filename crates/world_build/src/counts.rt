@@ -18,7 +18,7 @@ use std::alloc::Global;
 const MOST: u32 = 16_777_215;
 
 /// How many definitions, methods, fields and signatures there are.
-#[derive(Clone, Copy, Debug, PartialEq, Eq)]
+#[derive(Clone, Copy)]
 pub struct Totals {
     pub defs: u32,
     pub methods: u32,

@@ -17,7 +17,7 @@ use std::alloc::Global;
 use type_tree::{Locals, Member, WorldFile};
 
 /// The numbers of a file's first signature, field and method.
-#[derive(Clone, Copy, Debug, PartialEq, Eq)]
+#[derive(Clone, Copy)]
 pub struct Firsts {
     pub sig: u32,
     pub field: u32,

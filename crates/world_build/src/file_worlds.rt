@@ -31,7 +31,7 @@ use type_names::FileNames;
 use type_tree::{BodyPlace, Def, KeyList, WorldFile};
 
 /// The parts of a world to which each file adds its own.
-#[derive(Debug, Drop)]
+#[derive(Drop)]
 pub struct Growing {
     pub defs: Items<Def>,
     /// Where the body of each method stands.
@@ -41,7 +41,7 @@ pub struct Growing {
 }
 
 /// How many fields and methods the files before one have.
-#[derive(Clone, Copy, Debug, PartialEq, Eq)]
+#[derive(Clone, Copy)]
 struct Before {
     fields: u32,
     methods: u32,

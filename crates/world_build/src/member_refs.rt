@@ -15,7 +15,7 @@ use std::alloc::Global;
 use type_tree::{Member, with_room};
 
 /// What a MemberRef row says: the number in each of its columns. Rows that say the same have the same member.
-#[derive(Clone, Copy, Debug, PartialEq, Eq, Hash)]
+#[derive(Clone, Copy, PartialEq, Eq, Hash)]
 pub(crate) struct RefCells {
     pub class: u32,
     pub name: u32,

@@ -21,7 +21,7 @@ use type_tree::Ty;
 /// What the rows of a file are read by: the names and the members of the world, the types of the file's rows, its tables,
 /// the number of the method in its first MethodDef row, and the owners of these rows. Contracts see all but the owners and
 /// the index of the members, which follow from the others.
-#[derive(Debug, Drop)]
+#[derive(Drop)]
 pub struct Reader<'a, 'f> {
     names: &'a Names,
     members: &'a MemberTable,

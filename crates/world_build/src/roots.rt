@@ -21,7 +21,7 @@ pub enum RootForm {
 }
 
 /// Why words give no roots.
-#[derive(Debug, Drop)]
+#[derive(Drop)]
 pub enum RootsFault {
     /// A word names nothing.
     NoName(Text),
@@ -53,7 +53,7 @@ impl From<Memory> for RootsFault {
 }
 
 /// What a root word names.
-#[derive(Debug, Drop)]
+#[derive(Drop)]
 pub struct NamedRoot {
     /// The type, which for an entry is the owner of the method.
     pub ty: Ty,
@@ -108,7 +108,7 @@ fn root_named(
 }
 
 /// Roots, and their signatures.
-#[derive(Debug, Drop)]
+#[derive(Drop)]
 struct NewRoots {
     sigs: KeyList,
     roots: Items<Root>,

@@ -1,6 +1,9 @@
-use Rattle.std.proofs.Common.{◌≡◌, ◌++◌, codes, take}
-use Rattle.clr_core.proofs.FileLines.{lines_of}
+use Rattle.std.proofs.Common.{◌≡◌, ◌++◌, codes, drop}
+use Rattle.std.specs.List.{flat_map}
+use Rattle.clr_core.specs.Names.{name_line}
 use Rattle.clr_core.proofs.names.push_file.Given as goal
 
-abbrev pub invariant-loop-id : goal.invariant-loop-id
-invariant-loop-id l = l.text.items ≡ (l.fn.text.items ++ l.file ++ codes "\n") ++ lines_of l.world l.number (take l.id l.world.defs)
+abbrev pub invariant-loop-name : goal.invariant-loop-name
+invariant-loop-name l =
+    l.text.items ++ flat_map name_line (drop l.name-index l.names)
+    ≡ (l.fn.text.items ++ l.file ++ codes "\n") ++ flat_map name_line l.names

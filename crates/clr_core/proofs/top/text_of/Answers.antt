@@ -1,25 +1,23 @@
 use Rattle.std.proofs.Common.{◌<◌, ◌∙◌, ℕ, ◌-◌, List, [], Some, get_or, sym, ap, arith, length}
 use Rattle.std.proofs.lemmas.List.{length-map}
-use Rattle.world_build.specs.declared.roots.RootForm.TheVariants.{Types}
 use Rattle.world_build.specs.Images.{bytes_of_each}
 use Rattle.clr_core.specs.Command.{texts_of}
-use Rattle.clr_core.proofs.Checking.{given_image, number_within, files_fault}
+use Rattle.clr_core.proofs.Checking.{given_image, number_within, files_fault, files_text}
 use Rattle.clr_core.proofs.FileWords.{as_many, word_found}
-use Rattle.clr_core.proofs.WorldTexts.{world_written}
 use Rattle.clr_core.proofs.top.text_of.Goals as goal
 
 pub overflow_sub-number : goal.overflow_sub-number
 overflow_sub-number c =
     let bytes = bytes_of_each c.args.files.now in
     let within =
-    number_within bytes c.in-Err-Image.number c.in-Err-Image.fault (given_image _ _ _ bytes [] Types c.in-Err-Image.field-0-is c.in-Err-Image.ensures) in
+    number_within bytes c.in-Err-Image.number c.in-Err-Image.fault (given_image _ _ _ bytes c.in-Err-Image.field-0-is c.in-Err-Image.ensures.exact) in
     omega (arith, within.0, c.in-Err-Image.number-is)
 
 pub bounds-names-number : goal.bounds-names-number
 bounds-names-number c =
     let bytes = bytes_of_each c.args.files.now in
     let within =
-    number_within bytes c.in-Err-Image.number c.in-Err-Image.fault (given_image _ _ _ bytes [] Types c.in-Err-Image.field-0-is c.in-Err-Image.ensures) in
+    number_within bytes c.in-Err-Image.number c.in-Err-Image.fault (given_image _ _ _ bytes c.in-Err-Image.field-0-is c.in-Err-Image.ensures.exact) in
     let count = length-map c.args.files.now (λ file. file.items) in
     let same = c.requires.count in
     omega (arith, within.0, within.1, c.in-Err-Image.number-is)
@@ -29,7 +27,7 @@ returns-in-Err-Image-clause-stopped c =
     let number = c.in-Err-Image.number in
     let names = c.args.names.now in
     let bytes = bytes_of_each c.args.files.now in
-    let fails = given_image _ _ _ bytes [] Types c.in-Err-Image.field-0-is c.in-Err-Image.ensures in
+    let fails = given_image _ _ _ bytes c.in-Err-Image.field-0-is c.in-Err-Image.ensures.exact in
     let within = number_within bytes number c.in-Err-Image.fault fails in
     let count = length-map c.args.files.now (λ file. file.items) in
     let same = c.requires.count in
@@ -43,9 +41,4 @@ returns-in-Err-Image-clause-stopped c =
     )
 
 pub returns-in-Ok-names_text-clause-text : goal.returns-in-Ok-names_text-clause-text
-returns-in-Ok-names_text-clause-text c =
-    let count = length-map c.args.files.now (λ file. file.items) in
-    let words = as_many c.args.names.now in
-    let made = c.in-Ok.ensures in
-    world_written (bytes_of_each c.args.files.now) (texts_of c.args.names.now) [] Types c.in-Ok.world c.in-Ok-names_text.text
-    (omega (arith, count, words, c.requires.count)) made.0 made.1 c.in-Ok-names_text.ensures
+returns-in-Ok-names_text-clause-text c = ?

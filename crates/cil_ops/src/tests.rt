@@ -1,4 +1,0 @@
-mod conversions;
-mod faults;
-mod shifts;
-mod two_operands;
