@@ -1,15 +1,17 @@
 -- One node stands in at most one cell.
-use Rattle.std.proofs.Common.{◌≡◌, ℕ, ◌+◌, ◌<◌, ◌≢◌, List, [], ◌∷◌, sym, refl, ap, ◌∙◌, subst, inl, arith, Some, ◌++◌, get_or}
+use Rattle.std.proofs.Common.{◌≡◌, ℕ, ◌+◌, ◌<◌, ◌≢◌, List, sym, refl, ap, ◌∙◌, subst, inl, arith, Some, get_or}
 use mathlib.Core.Logic.{dite}
 use native.Mathlib.Decide.{ℕ_discrete, dec_lt}
 use Rattle.word_board.specs.Marks.{mark, Has, Within, Unset, Lawful}
-use Rattle.word_board.specs.Views.{Vacant, number_of, seeing, setting}
+use Rattle.word_board.specs.Views.{Vacant, Grown, number_of}
 use Rattle.word_board.specs.Numbers.{name}
 use Rattle.word_board.specs.declared.view.Mark.{Mark}
 use Rattle.word_board.specs.declared.view.Name.{Name}
 use Rattle.word_board.specs.declared.view.View.{View}
-use Rattle.word_board.proofs.Lists.{has_right, within_more}
-use Rattle.node_set.specs.Probing.{probe, Before, InOrder, MayBut, Grown, InNoCell, Absent, OneCell}
+use Rattle.node_set.specs.Nodes.{word_of, IsNode}
+use Rattle.node_set.specs.Keys.{Names, names_on}
+use Rattle.node_set.specs.Probing.{probe, Before, InOrder, NodeRule, MayBut, InNoCell, Absent, OneCell}
+use Rattle.node_set.specs.declared.node.Node.{Node}
 
 -- a node that has its cells before it set to others does not stand in one of them
 earlier : (cells : ℕ) (all : List Mark) → ((m n : Mark) → Has all m → Has all n → m.place ≡ n.place → m ≡ n) → (m n : Mark) → Has all m → m.word ≡ n.word → (i k : ℕ) → i < k → m.place ≡ probe cells m.word i → ¬ Before cells all n.word k
@@ -37,6 +39,12 @@ in_none may cells in_order seen all node k lawful within unset before m h low is
     (λ lower. let b = before a.0 lower in let x : m ≡ b.0 = lawful.1 m b.0 h (within b.0 b.1) (a.2 ∙ (ap (λ (w : ℕ). probe cells w a.0) is ∙ sym b.2)) in b.3 (ap (λ (y : Mark). y.word) (sym x) ∙ is))
     (λ higher. let b = a.3 k (omega arith) in unset b.0 b.1 (b.2 ∙ ap (λ (w : ℕ). probe cells w k) is)))
 
+-- a node that names what it may meets the rule of nodes wherever the cells before it are set to others. So it may stand, those cells aside, where the page asks for no more
+pub node_may : (may : List Mark → Mark → Type 0) (cells : ℕ) (seen : List Mark) (n : Node) (by : ℕ) → IsNode n → Names cells seen n
+    → ((more : List Mark) (m : Mark) → Within seen more → m.place < cells → m.word ≡ word_of n → m.by ≡ by → NodeRule cells more m → may more m) → MayBut may cells seen (word_of n) by
+node_may may cells seen n by is names can more k within low before =
+    can more (mark (probe cells (word_of n) k) (word_of n) by) within (omega arith) refl refl ((n, refl, is, names_on cells seen more within n names), (k, low, refl, before))
+
 -- one cell more was seen set to another
 pub before_more : (cells : ℕ) (seen more : List Mark) (node k word by : ℕ) → Within seen more → Before cells seen node k → Has more (mark (probe cells node k) word by) → word ≢ node → Before cells more node (k + 1)
 before_more cells seen more node k word by within before has ne i low = dite (dec_lt i k)
@@ -48,24 +56,6 @@ pub all_before : (n cells k : ℕ) (seen : List Mark) (w word : ℕ) → n ≡ c
 all_before n cells k seen w word e whole same before = subst (λ (x : ℕ × ℕ × ℕ). Before x.0 seen x.1 x.2) (λ i. (e i, same i, (whole ∙ e) i)) before
 
 module _ {P : Type 0} where
-  abbrev Saw : View P → View P → Mark → Type 0
-  Saw v w m = Has w.seen m × Grown v w × (w.kept ≡ v.kept)
-
-  abbrev Did : View P → View P → Mark → Type 0
-  Did v w m = Has w.seen m × Grown v w × (w.kept ≡ v.kept ++ m ∷ [])
-
-  pub sees : (v w : View P) (m : Mark) → w ≡ seeing v m → Saw v w m
-  sees v w m e = subst (λ (u : View P). Saw v u m) (sym e) (has_right v.seen (m ∷ []) m (inl refl), (within_more v.seen (m ∷ []), refl, refl, refl), refl)
-
-  pub sets : (v w : View P) (m : Mark) → w ≡ setting v m → Did v w m
-  sets v w m e = subst (λ (u : View P). Did v u m) (sym e) (has_right v.seen (m ∷ []) m (inl refl), (within_more v.seen (m ∷ []), refl, refl, refl), refl)
-
-  pub grown_same : (v w : View P) → w ≡ v → Grown v w
-  grown_same v w e = subst (λ (u : View P). Grown v u) (sym e) ((λ m h. h), refl, refl, refl)
-
-  pub grown_on : (u v w : View P) → Grown u v → Grown v w → Grown u w
-  grown_on u v w a b = ((λ m h. b.0 m (a.0 m h)), b.1 ∙ a.1, b.2 ∙ a.2, b.3 ∙ a.3)
-
   pub may_settle : (may : List Mark → Mark → Type 0) (cells n node k place : ℕ) (v w : View P) → MayBut may cells v.seen node (number_of v) → n ≡ cells → Grown v w → k < n → Before n w.seen node k → place ≡ probe n node k
       → may w.seen (mark place node (number_of w))
   may_settle may cells n node k place v w ask e grown low before at =

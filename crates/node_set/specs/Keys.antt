@@ -1,5 +1,5 @@
 -- What handles spell: keys, each the exact type or method that its nodes put together.
-use Rattle.std.specs.Prelude.{ℕ, ◌+◌, ◌<◌, ◌≤◌, List, max}
+use Rattle.std.specs.Prelude.{◌≡◌, ℕ, ◌+◌, ◌<◌, ◌≤◌, List, max}
 use Rattle.clr_base.specs.declared.ids.DefId.{DefId}
 use Rattle.clr_base.specs.declared.ids.MethId.{MethId}
 use Rattle.clr_base.specs.declared.ids.Handle.{Handle}
@@ -59,12 +59,25 @@ module _ (cells : ℕ) (all : List Mark) where
   Spells handle (array e) = (a : Handle) × Stands handle (Array a) × Spells a.0 e
   Spells handle (method m o) = (b : Handle) × Stands handle (Method m b) × Spells b.0 o
 
-  -- the nodes that a node names are set and spell keys, and a node with one of the tags 1 to 4 then spells a key
+  -- the node makes the key, by what the handles in it spell
+  abbrev pub Makes : Node → Key → Type 0
+  Makes (Head d) k = k ≡ head d
+  Makes (Argument a b) k = (f x : Key) × Spells a.0 f × Spells b.0 x × (k ≡ put f x)
+  Makes (Array a) k = (e : Key) × Spells a.0 e × (k ≡ array e)
+  Makes (Method m b) k = (o : Key) × Spells b.0 o × (k ≡ method m o)
+  Makes (Row a row) k = ⊥
+  Makes (LayoutSegment a segment) k = ⊥
+  Makes (DictionarySegment a segment) k = ⊥
+
+  abbrev pub MakesKey : Node → Type 0
+  MakesKey n = (k : Key) × Makes n k × IsKey k
+
+  -- the nodes that a node names are set and spell keys, and a node with one of the tags 1 to 4 then makes a key
   abbrev pub Names : Node → Type 0
-  Names (Head d) = Unit {0}
-  Names (Argument a b) = (k x : Key) × Spells a.0 k × Spells b.0 x × IsKey (put k x)
-  Names (Array a) = (e : Key) × Spells a.0 e × IsKey (array e)
-  Names (Method m b) = (o : Key) × Spells b.0 o × IsKey (method m o)
+  Names (Head d) = MakesKey (Head d)
+  Names (Argument a b) = MakesKey (Argument a b)
+  Names (Array a) = MakesKey (Array a)
+  Names (Method m b) = MakesKey (Method m b)
   Names (Row a row) = (k : Key) × Spells a.0 k × (0 < row)
   Names (LayoutSegment a segment) = (k : Key) × Spells a.0 k
   Names (DictionarySegment a segment) = (k : Key) × Spells a.0 k
@@ -80,11 +93,20 @@ spells_on cells xs ys w h (put k x) s = (s.0, s.1, stands_on cells xs ys w h (Ar
 spells_on cells xs ys w h (array e) s = (s.0, stands_on cells xs ys w h (Array s.0) s.1, spells_on cells xs ys w s.0.0 e s.2)
 spells_on cells xs ys w h (method m o) s = (s.0, stands_on cells xs ys w h (Method m s.0) s.1, spells_on cells xs ys w s.0.0 o s.2)
 
+abbrev pub makes_on : (cells : ℕ) (xs ys : List Mark) → Within xs ys → (n : Node) (k : Key) → Makes cells xs n k → Makes cells ys n k
+makes_on cells xs ys w (Head d) k s = s
+makes_on cells xs ys w (Argument a b) k s = (s.0, s.1, spells_on cells xs ys w a.0 s.0 s.2, spells_on cells xs ys w b.0 s.1 s.3, s.4)
+makes_on cells xs ys w (Array a) k s = (s.0, spells_on cells xs ys w a.0 s.0 s.1, s.2)
+makes_on cells xs ys w (Method m b) k s = (s.0, spells_on cells xs ys w b.0 s.0 s.1, s.2)
+makes_on cells xs ys w (Row a row) k s = s
+makes_on cells xs ys w (LayoutSegment a segment) k s = s
+makes_on cells xs ys w (DictionarySegment a segment) k s = s
+
 abbrev pub names_on : (cells : ℕ) (xs ys : List Mark) → Within xs ys → (n : Node) → Names cells xs n → Names cells ys n
-names_on cells xs ys w (Head d) s = tt
-names_on cells xs ys w (Argument a b) s = (s.0, s.1, spells_on cells xs ys w a.0 s.0 s.2, spells_on cells xs ys w b.0 s.1 s.3, s.4)
-names_on cells xs ys w (Array a) s = (s.0, spells_on cells xs ys w a.0 s.0 s.1, s.2)
-names_on cells xs ys w (Method m b) s = (s.0, spells_on cells xs ys w b.0 s.0 s.1, s.2)
+names_on cells xs ys w (Head d) s = (s.0, makes_on cells xs ys w (Head d) s.0 s.1, s.2)
+names_on cells xs ys w (Argument a b) s = (s.0, makes_on cells xs ys w (Argument a b) s.0 s.1, s.2)
+names_on cells xs ys w (Array a) s = (s.0, makes_on cells xs ys w (Array a) s.0 s.1, s.2)
+names_on cells xs ys w (Method m b) s = (s.0, makes_on cells xs ys w (Method m b) s.0 s.1, s.2)
 names_on cells xs ys w (Row a row) s = (s.0, spells_on cells xs ys w a.0 s.0 s.1, s.2)
 names_on cells xs ys w (LayoutSegment a segment) s = (s.0, spells_on cells xs ys w a.0 s.0 s.1)
 names_on cells xs ys w (DictionarySegment a segment) s = (s.0, spells_on cells xs ys w a.0 s.0 s.1)

@@ -1,9 +1,7 @@
 -- The order in which a node's cells are probed, and which node may stand in a cell.
-use Rattle.std.specs.Prelude.{◌≡◌, ◌≢◌, ℕ, ◌+◌, ◌%◌, ◌<◌, ◌⊎◌, List, [], ◌∷◌, ◌++◌}
+use Rattle.std.specs.Prelude.{◌≡◌, ◌≢◌, ℕ, ◌+◌, ◌%◌, ◌<◌, ◌⊎◌, List}
 use Rattle.word_board.specs.Marks.{mark, Has, Within, Unset, Lawful}
-use Rattle.word_board.specs.Views.{number_of}
 use Rattle.word_board.specs.declared.view.Mark.{Mark}
-use Rattle.word_board.specs.declared.view.View.{View}
 use Rattle.node_set.specs.Nodes.{word_of, IsNode}
 use Rattle.node_set.specs.Keys.{Names, names_on}
 use Rattle.node_set.specs.declared.node.Node.{Node}
@@ -32,18 +30,6 @@ node_rule_on cells xs ys m w r =
 -- the word may stand by these words, the cells before it in its probing order aside
 abbrev pub MayBut : (List Mark → Mark → Type 0) → ℕ → List Mark → ℕ → ℕ → Type 0
 MayBut may cells seen word by = (more : List Mark) (k : ℕ) → Within seen more → k < cells → Before cells more word k → may more (mark (probe cells word k) word by)
-
--- more is seen, and no number changed
-abbrev pub Grown : {P : Type 0} → View P → View P → Type 0
-Grown v w = Within v.seen w.seen × (w.page ≡ v.page) × (w.names ≡ v.names) × (w.drawn ≡ v.drawn)
-
--- the word was seen in this cell
-abbrev pub SeenAt : {P : Type 0} → View P → ℕ → ℕ → Type 0
-SeenAt v place word = (by : ℕ) × Has v.seen (mark place word by)
-
--- this word was set here, or nothing was
-abbrev pub KeepsOne : {P : Type 0} → View P → View P → ℕ → ℕ → Type 0
-KeepsOne v w place word = (w.kept ≡ v.kept) ⊎ (w.kept ≡ v.kept ++ mark place word (number_of v) ∷ [])
 
 abbrev pub InNoCell : ℕ → List Mark → ℕ → Type 0
 InNoCell cells all word = (m : Mark) → Has all m → m.place < cells → m.word ≢ word

@@ -1,12 +1,12 @@
 //! What holds of the nodes of every lawful board: every list of set words, each of which may stand by them all.
 ghost use Rattle.std.specs.Prelude.{◌≡◌, ℕ, ◌<◌, ◌≤◌, List, Some};
 ghost use Rattle.word_board.specs.Marks.{Has, Lawful};
-ghost use Rattle.word_board.specs.Views.{Known};
+ghost use Rattle.word_board.specs.Views.{Known, SeenAt};
 ghost use Rattle.word_board.specs.declared.view.Mark.{Mark};
 ghost use Rattle.word_board.specs.declared.view.View.{View};
 ghost use Rattle.node_set.specs.Nodes.{word_of, tag_of, IsNode};
 ghost use Rattle.node_set.specs.Keys.{Key, IsKey, Spells};
-ghost use Rattle.node_set.specs.Probing.{OneCell, SeenAt};
+ghost use Rattle.node_set.specs.Probing.{OneCell};
 ghost use Rattle.node_set.specs.declared.node.Node.{Node};
 
 use crate::nodes::Nodes;

@@ -5,8 +5,6 @@ mod laws;
 mod node;
 mod nodes;
 mod probing;
-#[cfg(test)]
-mod tests;
 
 pub use laws::{key_spelled, one_cell, one_handle, one_key, told_once};
 pub use node::Node;

@@ -7,7 +7,7 @@ use clr_base::{DefId, Handle, MethId};
 /// What a cell of a board names: a part of a key, or a row of words that belongs to a key.
 ///
 /// The number of the cell is the node's handle. Nodes name each other by handles, so a key is a chain of nodes.
-#[derive(Clone, Copy, Debug, PartialEq, Eq)]
+#[derive(Clone, Copy, PartialEq, Eq)]
 pub enum Node {
     /// The type definition that heads a key.
     Head { definition: DefId },

@@ -1,11 +1,9 @@
 //! The probing of a node.
 ghost use Rattle.std.specs.Prelude.{◌≡◌, ◌≢◌, ℕ, ◌+◌, ◌*◌, ◌%◌, ◌<◌, ◌≤◌, List, IfOk, IfErr, IfSome, IfNone};
-ghost use Rattle.word_board.specs.Marks.{mark, Has, Within};
-ghost use Rattle.word_board.specs.Places.{place_count};
-ghost use Rattle.word_board.specs.Views.{number_of};
+ghost use Rattle.word_board.specs.Views.{number_of, Grown, SeenAt, KeepsOne, Known};
 ghost use Rattle.word_board.specs.Boards.{IsSeatOf, IsSame, page_of, view_of};
 ghost use Rattle.node_set.specs.Nodes.{word_of};
-ghost use Rattle.node_set.specs.Probing.{probe, Before, MayBut, Grown, SeenAt, KeepsOne, Absent};
+ghost use Rattle.node_set.specs.Probing.{probe, Before, MayBut, Absent};
 
 use crate::node::Node;
 use crate::nodes::Nodes;
@@ -13,7 +11,7 @@ use clr_base::TableFull;
 use word_board::{Board, Seat};
 
 /// The number of a cell, which is the handle of the node in it.
-#[derive(Clone, Copy, Debug, PartialEq, Eq)]
+#[derive(Clone, Copy, PartialEq, Eq)]
 pub struct Cell(pub u32);
 
 // The k-th cell that is probed, from 0.
@@ -22,27 +20,6 @@ fn probed(word: u64, cells: u32, k: u32) -> u32
     ensures { (result ≡ probe cells word k) × (result < cells) }
 {
     ((word % 1_000_003 % cells as u64 + k as u64) % cells as u64) as u32
-}
-
-// The word that stands at a place, which is the given one if none stood there.
-fn settle<P: Nodes>(board: &Board<P>, seat: &mut Seat<P>, place: u32, word: u64) -> u64
-    requires own { IsSeatOf board.now seat.old }
-    requires inside { place < place_count (P.cell_count (page_of board.now)) (P.journal_count (page_of board.now)) }
-    requires word { 0 < word }
-    requires may { P.may (page_of board.now) (view_of seat.old).seen
-        (mark place word (number_of (view_of seat.old))) }
-    ensures own { IsSame seat.old seat.new × IsSeatOf board.now seat.new }
-    ensures word { (0 < result) × SeenAt (view_of seat.new) place result }
-    ensures view { Grown (view_of seat.old) (view_of seat.new) }
-    ensures kept { KeepsOne (view_of seat.old) (view_of seat.new) place word }
-    ensures other { result ≢ word → (view_of seat.new).kept ≡ (view_of seat.old).kept }
-{
-    let found = board.look(seat, place);
-    if found != 0 {
-        return found;
-    }
-    let old = board.set(seat, place, word);
-    if old != 0 { old } else { word }
 }
 
 /// The cell of a node, which is set there if it stands in none.
@@ -58,6 +35,7 @@ pub fn put<P: Nodes>(board: &Board<P>, seat: &mut Seat<P>, node: Node) -> Result
         (view_of seat.old).seen (word_of node) (number_of (view_of seat.old)) }
     ensures own { IsSame seat.old seat.new × IsSeatOf board.now seat.new }
     ensures view { Grown (view_of seat.old) (view_of seat.new) }
+    ensures known { Known P.may (view_of seat.new) }
     ensures cell { IfOk result (λ c.
         (c.0 < P.cell_count (page_of board.now)) × SeenAt (view_of seat.new) c.0 (word_of node)) }
     ensures kept { IfOk result (λ c. KeepsOne (view_of seat.old) (view_of seat.new) c.0 (word_of node)) }
@@ -70,7 +48,7 @@ pub fn put<P: Nodes>(board: &Board<P>, seat: &mut Seat<P>, node: Node) -> Result
     let cells = board.page().cells();
     for k in 0..cells {
         let place = probed(word, cells, k);
-        if settle(board, seat, place, word) == word {
+        if board.settle(seat, place, word) == word {
             return Ok(Cell(place));
         }
     }
@@ -85,6 +63,7 @@ pub fn seek<P: Nodes>(board: &Board<P>, seat: &mut Seat<P>, node: Node) -> Optio
     ensures own { IsSame seat.old seat.new × IsSeatOf board.now seat.new }
     ensures view { Grown (view_of seat.old) (view_of seat.new)
         × ((view_of seat.new).kept ≡ (view_of seat.old).kept) }
+    ensures known { Known P.may (view_of seat.new) }
     ensures cell { IfSome result (λ c.
         (c.0 < P.cell_count (page_of board.now)) × SeenAt (view_of seat.new) c.0 (word_of node)) }
     ensures none { IfNone result

@@ -254,6 +254,24 @@ module _ {P : Type 0} where
         let long : length v.drawn ≡ r.count = omega (arith, r.drawn (λ _. 1), mine (λ _. 1), below-one (r.count + 1), total-one v.drawn) in
         omega (arith, r.drawn f, mine f, ap (λ (k : ℕ). below f (k + 1)) long)
 
+  -- a view keeps a number as drawn once
+  pub once_drawn : (n : ℕ) (vs : List (View P)) (r : Numbered n vs) (id : ℕ) (v : View P) → get_elem? vs id ≡ some v → (d e : Draw) → Has v.drawn d → Has v.drawn e → d.number ≡ e.number → d ≡ e
+  once_drawn n vs r id v at d e h k same =
+      let g : Draw → ℕ = λ (x : Draw). only d.number x.number in
+      let few : total g v.drawn ≤ 1 = omega (arith, r.drawn (only d.number), term_le (drawing (only d.number)) vs id v at, below-once d.number (r.count + 1)) in
+      one_weight v.drawn d.number few d e h k refl (sym same)
+    where
+      one_weight : (ds : List Draw) (x : ℕ) → total (λ (y : Draw). only x y.number) ds ≤ 1 → (d e : Draw) → Has ds d → Has ds e → d.number ≡ x → e.number ≡ x → d ≡ e
+      one_weight [] x few d e h k a b = absurd h
+      one_weight (y ∷ ds) x few d e h k a b =
+          let da : only x d.number ≡ 1 = ap (only x) a ∙ only-same x in
+          let eb : only x e.number ≡ 1 = ap (only x) b ∙ only-same x in
+          ⊎_elim
+          (λ (p : y ≡ d). ⊎_elim (λ (q : y ≡ e). sym p ∙ q)
+          (λ (q : Has ds e). absurd (omega (arith, ap (λ (z : Draw). only x z.number) p, has_total (λ (z : Draw). only x z.number) ds e q))) k)
+          (λ (p : Has ds d). ⊎_elim (λ (q : y ≡ e). absurd (omega (arith, ap (λ (z : Draw). only x z.number) q, has_total (λ (z : Draw). only x z.number) ds d p)))
+          (λ (q : Has ds e). one_weight ds x (omega arith) d e p q a b) k) h
+
   -- two views have no number in common
   pub one_has : (n : ℕ) (vs : List (View P)) (r : Numbered n vs) (i j : ℕ) (v u : View P) → get_elem? vs i ≡ some v → get_elem? vs j ≡ some u → j ≢ i → (x : ℕ) → Has (numbers v.names) x → ¬ Has (numbers u.names) x
   one_has n vs r i j v u at there ne x h k = omega (arith, named v.names x h, named u.names x k, terms_le (having (only x)) vs i j v u ne at there, r.had (only x), below-once x (r.count + 1))

@@ -45,3 +45,10 @@ lost st m r n = (n.1 ≡ m.1) × (n.0 ≡ losing m.0)
 
 abbrev pub recalled : {P : Type 0} → (P → List Mark → Mark → Type 0) → Step ℕ → Sat P → ℕ → Sat P → Type 0
 recalled may st m r n = (n ≡ m) × Known may m.0
+
+-- the same with what the rule says of the pass after the step
+abbrev pub looked_known : {P : Type 0} → (P → List Mark → Mark → Type 0) → Step ℕ → Sat P → ℕ → Sat P → Type 0
+looked_known may st m r n = looked may st m r n × Known may n.0
+
+abbrev pub wrote_known : {P : Type 0} → (P → List Mark → Mark → Type 0) → Step ℕ → Sat P → ℕ → Sat P → Type 0
+wrote_known may st m r n = wrote st m r n × Known may n.0

@@ -1,7 +1,8 @@
 -- What a pass knows, and what the steps make of it.
-use Rattle.std.specs.Prelude.{◌≡◌, ℕ, ◌<◌, ◌≤◌, ◌⊎◌, List, [], ◌∷◌, ◌++◌, slice_index_or, true, Option, None, Some}
-use Rattle.word_board.specs.Marks.{Has, Within, Unset, Lawful}
-use Rattle.word_board.specs.Numbers.{name, draw, numbers, IsUnhanded}
+use Rattle.std.specs.Prelude.{◌≡◌, ℕ, ◌+◌, ◌<◌, ◌≤◌, ◌⊎◌, List, [], ◌∷◌, ◌++◌, length, slice_index_or, true, Option, None, Some}
+use Rattle.word_board.specs.Weights.{below}
+use Rattle.word_board.specs.Marks.{mark, Has, Within, Unset, Lawful}
+use Rattle.word_board.specs.Numbers.{name, draw, numbers, drawing, IsUnhanded}
 use Rattle.word_board.specs.declared.view.Mark.{Mark}
 use Rattle.word_board.specs.declared.view.Name.{Name}
 use Rattle.word_board.specs.declared.view.Fate.{Fate}
@@ -85,6 +86,18 @@ IsWhole v = Has (numbers v.names) 0 × ((d : Draw) → Has v.drawn d → Has (nu
 abbrev pub Stalls : {P : Type 0} → View P → View P → Type 0
 Stalls v w = (4095 ≤ w.least) × ((w ≡ finding v w.least) ⊎ (w ≡ overshooting v w.least))
 
+-- more may be seen and kept, and no number changed
+abbrev pub Grown : {P : Type 0} → View P → View P → Type 0
+Grown v w = Within v.seen w.seen × (w.page ≡ v.page) × (w.names ≡ v.names) × (w.drawn ≡ v.drawn) × (w.least ≡ v.least)
+
+-- the word was seen at this place
+abbrev pub SeenAt : {P : Type 0} → View P → ℕ → ℕ → Type 0
+SeenAt v place word = (by : ℕ) × Has v.seen (mark place word by)
+
+-- this word was set here, or nothing was
+abbrev pub KeepsOne : {P : Type 0} → View P → View P → ℕ → ℕ → Type 0
+KeepsOne v w place word = (w.kept ≡ v.kept) ⊎ (w.kept ≡ v.kept ++ mark place word (number_of v) ∷ [])
+
 -- the word at a place is that of each mark of it
 abbrev pub Agrees : List Mark → ℕ → ℕ → Type 0
 Agrees seen place word = (m : Mark) → Has seen m → m.place ≡ place → word ≡ m.word
@@ -108,3 +121,7 @@ module _ {P : Type 0} (may : P → List Mark → Mark → Type 0) where
     pub own_kept : (m : Mark) → Has v.seen m → Has (numbers v.names) m.by → Has v.kept m
     -- each number that it keeps as drawn was drawn by a pass with a lower number that it has
     pub drawn_own : (d : Draw) → Has v.drawn d → (d.by < d.number) × Has (numbers v.names) d.by
+    -- a number is kept as drawn once
+    pub drawn_once : (d e : Draw) → Has v.drawn d → Has v.drawn e → d.number ≡ e.number → d ≡ e
+    -- where every other pass was taken in, the numbers that it keeps as drawn are 1 to their count
+    pub drawn_first : IsWhole v → (f : ℕ → ℕ) → f 0 + drawing f v ≡ below f (length v.drawn + 1)

@@ -1,5 +1,5 @@
 //! The board.
-ghost use Rattle.std.specs.Prelude.{◌≡◌, ◌+◌};
+ghost use Rattle.std.specs.Prelude.{◌≡◌, ◌+◌, ◌<◌};
 ghost use Rattle.word_board.specs.Places.{place_count};
 
 use crate::page::Page;
@@ -19,5 +19,6 @@ pub struct Board<P: Page> {
     ghost about: { table.shared.key ≡ plan },
     ghost wide: { table.shared.table_id.words ≡ plan.places + 1 },
     ghost no_slot: { table.shared.table_id.slots ≡ 0 },
+    ghost narrow: { plan.places < 4294967296 },
     ghost sized: { plan.places ≡ place_count (P.cell_count plan.page) (P.journal_count plan.page) },
 }

@@ -5,11 +5,10 @@ mod board;
 mod opening;
 mod page;
 mod passes;
+mod places;
 mod plays;
 mod seat;
 mod steps;
-#[cfg(test)]
-mod tests;
 mod view;
 
 pub use board::Board;

@@ -1,5 +1,5 @@
 //! Which words may stand.
-ghost use Rattle.std.specs.Prelude.{◌≡◌, ℕ, ◌+◌, ◌<◌, List};
+ghost use Rattle.std.specs.Prelude.{◌≡◌, ℕ, ◌+◌, ◌<◌, ◌≤◌, List};
 ghost use Rattle.word_board.specs.Marks.{Within};
 ghost use Rattle.word_board.specs.declared.view.Mark.{Mark};
 
@@ -12,7 +12,7 @@ pub trait Meaning {
     ghost stays: { (page : Self) (xs ys : List Mark) (m : Mark) → Within xs ys → may page xs m → may page ys m };
 }
 
-/// A meaning with the numbers of cells and of journal places.
+/// A meaning with the numbers of cells, at most 262,144, and of journal places.
 ///
 /// The node word of cell c is at place c, word w of its row of 32 at `cells + 32 * c + w`,
 /// and journal place i at `33 * cells + i`.
@@ -20,6 +20,8 @@ pub trait Page: Meaning {
     ghost cell_count: { Self → ℕ };
 
     ghost journal_count: { Self → ℕ };
+
+    ghost few: { (page : Self) → cell_count page ≤ 262144 };
 
     /// The number of cells, at least 1.
     fn cells(&self) -> u32

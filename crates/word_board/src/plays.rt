@@ -20,18 +20,18 @@ impl<P: Meaning> TableRule<u64, View<P>, Plan<P>> for Law {
 pub(crate) struct Look;
 
 impl<P: Meaning> Play<u64, View<P>> for Look {
-    ghost use Rattle.word_board.specs.Steps.{looked};
+    ghost use Rattle.word_board.specs.Steps.{looked_known};
 
-    ghost then = { looked P.may };
+    ghost then = { looked_known P.may };
 }
 
 // An exchange of a place from 0.
 pub(crate) struct Set;
 
 impl<P: Meaning> Play<u64, View<P>> for Set {
-    ghost use Rattle.word_board.specs.Steps.{wrote};
+    ghost use Rattle.word_board.specs.Steps.{wrote_known};
 
-    ghost then = { wrote };
+    ghost then = { wrote_known P.may };
 }
 
 // A load of the number word.

@@ -2,7 +2,8 @@ use Rattle.std.proofs.Common.{rules, ℕ, ap, sym, ◌∙◌, subst, arith}
 use Rattle.word_board.specs.Views.{number_of}
 use Rattle.word_board.specs.Boards.{view_of, page_of}
 use Rattle.node_set.specs.Probing.{MayBut}
-use Rattle.node_set.proofs.Probes.{grown_on, may_settle, before_next, all_before}
+use Rattle.word_board.proofs.Growing.{grown_on}
+use Rattle.node_set.proofs.Probes.{may_settle, before_next, all_before}
 use Rattle.node_set.proofs.probing.put.Goals as goal
 
 pub settle-requires-clause-may : goal.settle-requires-clause-may
@@ -15,6 +16,7 @@ pub loop-k-preserved : goal.loop-k-preserved
 loop-k-preserved g c = let i = c.loop-k.invariant in let s = c.settle.ensures in record {
   own = search rules;
   grown = grown_on (view_of c.args.seat.now) (view_of c.loop-k.seat) (view_of c.settle.new.seat) i.grown s.view;
+  known = λ low. s.known;
   kept = s.other c.if-settle-word.false ∙ i.kept;
   before = before_next c.cells-cells.result c.word-word.result c.loop-k.k c.probed-place.result c.settle.result s.word.1.0 (view_of c.loop-k.seat) (view_of c.settle.new.seat) s.view i.before s.word.1.1 c.probed-place.ensures.0 c.if-settle-word.false;
 }

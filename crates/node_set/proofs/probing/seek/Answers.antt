@@ -2,7 +2,8 @@ use Rattle.std.proofs.Common.{rules, ◌≡◌, ℕ, ap, ◌∙◌, subst, arith
 use Rattle.word_board.specs.Boards.{view_of, page_of}
 use Rattle.word_board.specs.Marks.{mark, Has}
 use Rattle.node_set.specs.Probing.{Absent}
-use Rattle.node_set.proofs.Probes.{sees, grown_on, before_next, absent_here, all_before}
+use Rattle.word_board.proofs.Growing.{sees, grown_on}
+use Rattle.node_set.proofs.Probes.{before_next, absent_here, all_before}
 use Rattle.node_set.proofs.probing.seek.Goals as goal
 
 pub returns-then-found-word-clause-view : goal.returns-then-found-word-clause-view
@@ -33,6 +34,7 @@ loop-k-preserved g c = let i = c.loop-k.invariant in let z = c.if-found-eq0.fals
     record {
       own = search rules;
       grown = grown_on (view_of c.args.seat.now) (view_of c.loop-k.seat) (view_of c.look-found.new.seat) i.grown s.1;
+      known = λ low. c.look-found.ensures.known;
       kept = s.2 ∙ i.kept;
       before = before_next c.cells-cells.result c.word-word.result c.loop-k.k c.probed-place.result c.look-found.result t.0 (view_of c.loop-k.seat) (view_of c.look-found.new.seat) s.1 i.before s.0 c.probed-place.ensures.0 c.if-found-word.false;
     }

@@ -1,111 +1,14 @@
+//! Tests of threads that put the same nodes.
 ghost use Rattle.std.specs.Prelude.{◌≡◌, ◌<◌, ◌*◌, IfSome, vec_len};
-ghost use Rattle.word_board.specs.Boards.{IsSeatOf, IsSame};
-ghost use Rattle.node_set.specs.Probing.{NodeRule, node_rule_on};
+ghost use Rattle.word_board.specs.Boards.{IsSeatOf};
 
-use crate::{Cell, Node, Nodes, put, seek};
-use clr_base::{DefId, Handle, TableFull};
+use crate::nodes::put_head;
+use crate::pages::NodesAlone;
+use clr_base::TableFull;
 use std::alloc::Global;
 use std::test::Fail;
 use std::thread::{Threads, join};
-use word_board::{Board, Meaning, Page, Seat};
-
-// A page of nodes alone: what stands in a row is free.
-#[derive(Drop)]
-struct NodesAlone {
-    cells: u32,
-    ghost some: { 0 < cells },
-}
-
-impl Meaning for NodesAlone {
-    ghost may = { λ page xs m. m.place < page.cells → NodeRule page.cells xs m };
-
-    ghost stays = { λ page xs ys m within may low. node_rule_on page.cells xs ys m within (may low) };
-}
-
-impl Page for NodesAlone {
-    ghost cell_count = { λ page. page.cells };
-
-    ghost journal_count = { λ page. 0 };
-
-    fn cells(&self) -> u32 {
-        self.cells
-    }
-
-    fn journal(&self) -> u32 {
-        0
-    }
-}
-
-impl Nodes for NodesAlone {
-    ghost node_rule = { λ page all m may low. may low };
-}
-
-fn head(definition: u32) -> Node {
-    Node::Head {
-        definition: DefId(definition),
-    }
-}
-
-// Puts the head of a definition.
-fn put_head(
-    board: &Board<NodesAlone>,
-    seat: &mut Seat<NodesAlone>,
-    definition: u32,
-) -> Result<Cell, TableFull>
-    requires own { IsSeatOf board.now seat.old }
-    requires narrow { definition < 16777216 }
-    ensures { IsSeatOf board.now seat.new }
-{
-    let node = Node::Head {
-        definition: DefId(definition),
-    };
-    put(board, seat, node)
-}
-
-#[test]
-fn a_full_table_finds_its_nodes(rt: HostRuntime) -> Result<(), Fail> {
-    let (board, mut seat) = Board::open(rt.alloc(), NodesAlone { cells: 4 }, 132)?;
-    let first = put_head(&board, &mut seat, 0);
-    assert!(rt; first.is_ok());
-    assert!(rt; put_head(&board, &mut seat, 1).is_ok());
-    assert!(rt; put_head(&board, &mut seat, 2).is_ok());
-    assert!(rt; put_head(&board, &mut seat, 3).is_ok());
-    assert!(rt; put_head(&board, &mut seat, 4) == Err(TableFull));
-    assert!(rt; put_head(&board, &mut seat, 0) == first);
-    assert!(rt; seek(&board, &mut seat, head(0)) == first.ok());
-    assert!(rt; seek(&board, &mut seat, head(4)).is_none());
-    Ok(())
-}
-
-#[test]
-fn words_of_nodes(rt: HostRuntime) -> Result<(), Fail> {
-    let a = Handle(5);
-    let b = Handle(7);
-    assert!(rt; head(9).word() == 0x91);
-    assert!(rt; Node::Argument { of: a, argument: b }.word() == 0x7000_0052);
-    assert!(rt; Node::Array { element: a }.word() == 0x53);
-    assert!(rt; Node::Row { key: a, row: 1 }.word() == 0x1000_0055);
-    assert!(rt;
-        Node::LayoutSegment {
-            canonical: a,
-            segment: 63
-        }
-        .word()
-            == 0x3_f000_0056
-    );
-    assert!(rt;
-        Node::DictionarySegment {
-            exact: a,
-            segment: 0
-        }
-        .word()
-            == 0x57
-    );
-    assert!(rt; Node::read(0x1000_0055) == Some(Node::Row { key: a, row: 1 }));
-    assert!(rt; Node::read(0x1000_0053).is_none());
-    assert!(rt; Node::read(0x50).is_none());
-    Ok(())
-}
+use word_board::{Board, Seat};
 
 // A pass, and the cell that it was told of each of the thousand heads; none where some head found no cell.
 type Run = (Seat<NodesAlone>, Option<Vec<u32>>);
@@ -265,8 +168,11 @@ fn run_eight<R: Threads + Sync>(
     Some(merged(board, one, two))
 }
 
-// Each of the thousand heads stands in the cell that was told of it.
+// The thousand heads are all that is set, and each stands in the cell that was told of it.
 fn stand_as_told(words: &[u64], told: &[u32]) -> bool {
+    if words.iter().filter(|&word| *word != 0).count() != 1000 {
+        return false;
+    }
     for definition in 0..NODES {
         let Some(cell) = told.get(definition as usize) else {
             return false;
@@ -278,8 +184,20 @@ fn stand_as_told(words: &[u64], told: &[u32]) -> bool {
     true
 }
 
-fn count_set(words: &[u64]) -> usize {
-    words.iter().filter(|&word| *word != 0).count()
+// Threads were told the same cells, in which the heads stand as the board closes.
+fn are_told(alloc: Global, board: Board<NodesAlone>, run: Option<Run>) -> bool
+    requires { IfSome run (λ r. IsSeatOf board r.0) }
+{
+    let Some((seat, told)) = run else {
+        return false;
+    };
+    let Some(told) = told else {
+        return false;
+    };
+    match board.close(alloc, seat) {
+        Ok(words) => stand_as_told(words.as_slice(), told.as_slice()),
+        Err(_) => false,
+    }
 }
 
 #[test]
@@ -288,31 +206,15 @@ fn two_threads_are_told_the_same_cells(rt: HostRuntime) -> Result<(), Fail> {
     let Some(seats) = forked(rt.alloc(), &board, seat) else {
         panic!(rt; "no number");
     };
-    let (seat, told) = run_two(&rt, rt.alloc(), &board, seats, 0);
-    let Some(told) = told else {
-        panic!(rt; "threads were told different cells");
-    };
-    let Ok(words) = board.close(rt.alloc(), seat) else {
-        panic!(rt; "want of memory");
-    };
-    assert!(rt; count_set(words.as_slice()) == 1000);
-    assert!(rt; stand_as_told(words.as_slice(), told.as_slice()));
+    let run = run_two(&rt, rt.alloc(), &board, seats, 0);
+    assert!(rt; are_told(rt.alloc(), board, Some(run)));
     Ok(())
 }
 
 #[test]
 fn eight_threads_are_told_the_same_cells(rt: HostRuntime) -> Result<(), Fail> {
     let (board, seat) = Board::open(rt.alloc(), NodesAlone { cells: 2048 }, 67_584)?;
-    let Some((seat, told)) = run_eight(&rt, rt.alloc(), &board, seat) else {
-        panic!(rt; "no number");
-    };
-    let Some(told) = told else {
-        panic!(rt; "threads were told different cells");
-    };
-    let Ok(words) = board.close(rt.alloc(), seat) else {
-        panic!(rt; "want of memory");
-    };
-    assert!(rt; count_set(words.as_slice()) == 1000);
-    assert!(rt; stand_as_told(words.as_slice(), told.as_slice()));
+    let run = run_eight(&rt, rt.alloc(), &board, seat);
+    assert!(rt; are_told(rt.alloc(), board, run));
     Ok(())
 }

@@ -2,8 +2,8 @@ use Rattle.std.proofs.Common.{arith}
 use Rattle.word_board.specs.Marks.{mark}
 use Rattle.word_board.specs.Boards.{view_of}
 use Rattle.word_board.specs.Views.{number_of}
-use Rattle.node_set.proofs.Probes.{sees, sets, grown_same, grown_on}
-use Rattle.node_set.proofs.probing.settle.Goals as goal
+use Rattle.word_board.proofs.Growing.{sees, sets, grown_same, grown_on}
+use Rattle.word_board.proofs.board.Board.settle.Goals as goal
 
 pub returns-then-found-ne0-clause-word : goal.returns-then-found-ne0-clause-word
 returns-then-found-ne0-clause-word g c = let t = c.look-found.ensures.seen c.if-found-ne0.true in let ne = c.if-found-ne0.true in

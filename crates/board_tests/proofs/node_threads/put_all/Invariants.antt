@@ -1,6 +1,6 @@
 use Rattle.std.proofs.Common.{◌≡◌, vec_len}
 use Rattle.word_board.specs.Boards.{IsSeatOf}
-use Rattle.node_set.proofs.tests.put_all.Given as goal
+use Rattle.board_tests.proofs.node_threads.put_all.Given as goal
 
 abbrev pub invariant-loop-i : goal.invariant-loop-i
 invariant-loop-i l = record {
