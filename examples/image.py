@@ -180,8 +180,16 @@ class Image:
             self.rows[table].append(([self.cell(table, k, word) for k, word in enumerate(words)], times))
 
     def set(self, table, row, column, word):
-        names = [name for name, _ in SCHEMA[table][1]]
-        self.rows[table][int(row) - 1][0][names.index(column)] = self.cell(table, names.index(column), word)
+        """Puts another cell into a row."""
+        place = [name for name, _ in SCHEMA[table][1]].index(column)
+        before = int(row) - 1
+        for k, (cells, times) in enumerate(self.rows[table]):
+            if before < times:
+                break
+            before -= times
+        other = cells[:place] + [self.cell(table, place, word)] + cells[place + 1:]
+        pieces = [(cells, before), (other, 1), (cells, times - before - 1)]
+        self.rows[table][k:k + 1] = [piece for piece in pieces if piece[1] > 0]
 
     def read(self, text):
         """Does what the lines of a recipe say."""
