@@ -155,8 +155,6 @@ class Image:
             return self.blob(bytes.fromhex(word[1:-1]))
         if word[0] == '@':
             return word
-        if word == 'n':
-            return self.count(table)
         if ':' in word:
             named, row = word.split(':')
             if holds not in CODED_INDEXES:
@@ -168,16 +166,18 @@ class Image:
 
     def row(self, table, words):
         """Adds a row, or rows like it."""
+        first = self.count(table)
         times = 1
         if len(words) > 1 and words[-2] == 'to':
-            times = int(words[-1]) - self.count(table)
+            times = int(words[-1]) - first
             words = words[:-2]
         assert len(words) == len(SCHEMA[table][1]), (table, words)
-        if 'n' in words:
-            for _ in range(times):
-                self.rows[table].append(([self.cell(table, k, word) for k, word in enumerate(words)], 1))
+        cells = [word if word == 'n' else self.cell(table, k, word) for k, word in enumerate(words)]
+        if 'n' in cells:
+            pieces = [([n if cell == 'n' else cell for cell in cells], 1) for n in range(first, first + times)]
         else:
-            self.rows[table].append(([self.cell(table, k, word) for k, word in enumerate(words)], times))
+            pieces = [(cells, times)]
+        self.rows[table] += pieces
 
     def set(self, table, row, column, word):
         """Puts another cell into a row."""
