@@ -1,0 +1,9 @@
+pub mod CanLemmas
+pub mod Gets
+pub mod JobLemmas
+pub mod KeyLemmas
+pub mod KeySets
+pub mod Levels
+pub mod Marks
+pub mod PutLemmas
+pub mod Sound
