@@ -101,10 +101,15 @@ SCHEMA, CODED_INDEXES = read_tables(), read_coded()
 
 def unescaped(text):
     """The bytes of a text with \\0 and \\xNN."""
-    byte = lambda found: '\0' if found[0] == '\\0' else chr(int(found[1], 16))
-    pieces = re.split(r'(\\0|\\x[0-9a-fA-F]{2})', text)
-    return b''.join(p.encode() if k % 2 == 0 else (b'\0' if p == '\\0' else bytes([int(p[2:], 16)]))
-                    for k, p in enumerate(pieces))
+    out = b''
+    for piece in re.split(r'(\\0|\\x[0-9a-fA-F]{2})', text):
+        if piece == '\\0':
+            out += b'\0'
+        elif piece.startswith('\\x'):
+            out += bytes([int(piece[2:], 16)])
+        else:
+            out += piece.encode()
+    return out
 
 
 def padded(data, least=0):
