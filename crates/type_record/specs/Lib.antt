@@ -1,0 +1,5 @@
+pub mod TheOne
+pub mod Words
+pub mod Records
+pub mod Room
+pub mod Sections
