@@ -149,6 +149,7 @@ class Image:
         return found + 1
 
     def blob(self, data):
+        assert len(data) < 128, 'a longer blob has a longer length'
         self.blobs += bytes([len(data)]) + data
         return len(self.blobs) - len(data) - 1
 
