@@ -1,0 +1,5 @@
+//! Tests of types: trees that stand once in a pool.
+#![tactic(auto)]
+
+#[cfg(test)]
+mod pools;
