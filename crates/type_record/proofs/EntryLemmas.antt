@@ -1,6 +1,6 @@
 -- The entries of a record have room in their words.
-use Rattle.std.proofs.Common.{◌≡◌, ℕ, zero, suc, ◌+◌, ◌*◌, ◌<◌, ◌≤◌, List, [], ◌∷◌, ◌++◌, map, length, Option, None, Some, refl, arith}
-use Rattle.std.specs.Prelude.{IfSome, sum, slice_get}
+use Rattle.std.proofs.Common.{◌≡◌, ℕ, zero, suc, ◌+◌, ◌<◌, List, [], ◌∷◌, ◌++◌, map, length, Option, Some, refl, arith}
+use Rattle.std.specs.Prelude.{slice_get}
 use Rattle.std.specs.List.{flat_map, All}
 use Rattle.std.proofs.lemmas.List.{length-append, length-map}
 use Rattle.std.proofs.lemmas.List.Sums.{sum_by-cons}
@@ -9,8 +9,6 @@ use Rattle.clr_base.specs.declared.ids.Handle.{Handle}
 use Rattle.type_record.specs.declared.entry.Entry.{Entry}
 use Rattle.type_record.specs.declared.shape.Form.{Form}
 use Rattle.type_record.specs.declared.shape.Form.TheVariants.{Class, Struct, Interface, Array, Method}
-use Rattle.type_record.specs.declared.shape.Shape.{Shape}
-use Rattle.type_record.specs.declared.loaded.FieldOf.{FieldOf}
 use Rattle.type_record.specs.declared.loaded.SlotOf.{SlotOf}
 use Rattle.type_record.specs.declared.loaded.TypeRecord.{TypeRecord}
 use Rattle.type_record.specs.Words.{word_of, FitsWord, IsHandle}
@@ -41,23 +39,33 @@ interfaces_room before (i ∷ is) [] small fits =
 interfaces_room before (i ∷ is) (list ∷ lists) small fits =
     let more = methods_of list lists in
     All-cons FitsWord (entry before (Some i)) (interface_entries (before + length list) is lists) (omega arith, All-head IsHandle i is fits)
-      (interfaces_room (before + length list) is lists (omega arith) (All-tail IsHandle i is fits))
+    (interfaces_room (before + length list) is lists (omega arith) (All-tail IsHandle i is fits))
 
 lists_room : (lists : List (List (Option (SlotOf Handle)))) → All (All ChoiceFits) lists → All FitsWord (flat_map (map choice_entry) lists)
 lists_room [] fits = All-nil FitsWord
 lists_room (list ∷ lists) fits =
     All-append FitsWord (map choice_entry list) (flat_map (map choice_entry) lists)
-      (All-map FitsWord choice_entry list (All-weaker ChoiceFits (λ c. FitsWord (choice_entry c)) choice_room list (All-head (All ChoiceFits) list lists fits)))
-      (lists_room lists (All-tail (All ChoiceFits) list lists fits))
+    (All-map FitsWord choice_entry list (All-weaker ChoiceFits (λ c. FitsWord (choice_entry c)) choice_room list (All-head (All ChoiceFits) list lists fits)))
+    (lists_room lists (All-tail (All ChoiceFits) list lists fits))
 
 front_room : (r : TypeRecord Handle) → IsRecord r → All FitsWord (front_entries r.shape r.canon r.parent r.element)
 front_room r is =
     let form = form_below r.shape.form in
     let counted = is.counted in
     let small = is.small in
-    All-from_recursion FitsWord (front_entries r.shape r.canon r.parent r.element)
-      ((omega arith, is.handles.canon), ((omega arith, is.handles.parent), ((omega arith, is.handles.element), ((omega arith, tt),
-      ((omega arith, tt), ((omega arith, tt), ((omega arith, tt), ((omega arith, tt), tt))))))))
+    All-from_recursion FitsWord (front_entries r.shape r.canon r.parent r.element) (
+      (omega arith, is.handles.canon),
+      (
+        (omega arith, is.handles.parent),
+        (
+          (omega arith, is.handles.element),
+          (
+            (omega arith, tt),
+            ((omega arith, tt), ((omega arith, tt), ((omega arith, tt), ((omega arith, tt), tt)))),
+          ),
+        ),
+      ),
+    )
 
 all_six : {X : Type 0} (P : X → Type 0) (xs bs cs ds es fs : List X) → All P xs → All P bs → All P cs → All P ds → All P es → All P fs → All P (xs ++ bs ++ cs ++ ds ++ es ++ fs)
 all_six P xs bs cs ds es fs a b c d e f =
@@ -67,13 +75,13 @@ pub entries_room : (r : TypeRecord Handle) → IsRecord r → HasNumbers r → A
 unfolding entries
 entries_room r is numbers =
     all_six FitsWord (front_entries r.shape r.canon r.parent r.element) (map arg_entry r.args) (interface_entries 0 r.interfaces r.interface_slots)
-      (map field_entry r.fields) (map slot_entry r.slots) (flat_map (map choice_entry) r.interface_slots)
-      (front_room r is)
-      (All-map FitsWord arg_entry r.args (All-weaker IsHandle (λ k. FitsWord (arg_entry k)) arg_room r.args is.handles.args))
-      (interfaces_room 0 r.interfaces r.interface_slots (omega (arith, is.small.methods)) is.handles.interfaces)
-      (All-map FitsWord field_entry r.fields (All-weaker FieldFits (λ f. FitsWord (field_entry f)) field_room r.fields (all_both FieldHasNumber FieldHasHandle r.fields numbers.fields is.handles.fields)))
-      (All-map FitsWord slot_entry r.slots (All-weaker SlotFits (λ s. FitsWord (slot_entry s)) slot_room r.slots (all_both SlotHasNumber SlotHasHandle r.slots numbers.slots is.handles.slots)))
-      (lists_room r.interface_slots (all_lists r.interface_slots numbers.interface_slots is.handles.interface_slots))
+    (map field_entry r.fields) (map slot_entry r.slots) (flat_map (map choice_entry) r.interface_slots)
+    (front_room r is)
+    (All-map FitsWord arg_entry r.args (All-weaker IsHandle (λ k. FitsWord (arg_entry k)) arg_room r.args is.handles.args))
+    (interfaces_room 0 r.interfaces r.interface_slots (omega (arith, is.small.methods)) is.handles.interfaces)
+    (All-map FitsWord field_entry r.fields (All-weaker FieldFits (λ f. FitsWord (field_entry f)) field_room r.fields (all_both FieldHasNumber FieldHasHandle r.fields numbers.fields is.handles.fields)))
+    (All-map FitsWord slot_entry r.slots (All-weaker SlotFits (λ s. FitsWord (slot_entry s)) slot_room r.slots (all_both SlotHasNumber SlotHasHandle r.slots numbers.slots is.handles.slots)))
+    (lists_room r.interface_slots (all_lists r.interface_slots numbers.interface_slots is.handles.interface_slots))
 
 -- how many entries there are
 pub interfaces_length : {K : Type 0} (before : ℕ) (is : List K) (lists : List (List (Option (SlotOf K)))) → length (interface_entries before is lists) ≡ length is

@@ -1,5 +1,5 @@
 -- The eight words in front.
-use Rattle.std.proofs.Common.{◌≡◌, ℕ, zero, suc, ◌+◌, ◌*◌, ◌<◌, ◌≤◌, List, [], ◌∷◌, map, length, take, get_or, true, Option, None, Some, refl, sym, ap, ◌∙◌, subst, arith}
+use Rattle.std.proofs.Common.{◌≡◌, ℕ, ◌+◌, ◌*◌, ◌<◌, ◌≤◌, List, [], ◌∷◌, map, length, take, get_or, true, Option, None, Some, refl, sym, ap, ◌∙◌, subst, arith}
 use Rattle.std.specs.Prelude.{IfSome, ◌&&◌, nat_eq}
 use Rattle.std.proofs.lemmas.Bool.{and_parts, eqb-true}
 use Rattle.std.proofs.lemmas.List.{get_or-take}
@@ -44,8 +44,15 @@ module _ (words : List ℕ) (x : Front) (is : IsFront words x) where
 
 pub front_told : (words : List ℕ) (a b c d : Entry Handle) (x : Front) → IsFront words x → first_of_front x ≡ a → second_of_front x ≡ b → third_of_front x ≡ c → fourth_of_front x ≡ d → IsFrontOf a b c d x
 front_told words a b c d x is one two three four = record {
-  args = is.args; interfaces = is.interfaces; fields = is.fields; slots = is.slots; size = is.size;
-  first_is = one; second_is = two; third_is = three; fourth_is = four;
+  args = is.args;
+  interfaces = is.interfaces;
+  fields = is.fields;
+  slots = is.slots;
+  size = is.size;
+  first_is = one;
+  second_is = two;
+  third_is = three;
+  fourth_is = four;
 }
 
 take_eight : (words : List ℕ) → 8 ≤ length words
@@ -68,7 +75,12 @@ pub front_from : (words : List ℕ) (a b c d : Entry Handle) (x : Front) → 8 �
     → get_or words 4 0 ≡ 524289 → get_or words 5 0 ≡ 1048577 → get_or words 6 0 ≡ 1572865 → get_or words 7 0 ≡ 2097153
     → IsFrontOf a b c d x → IsFront words x
 front_from words a b c d x long fa wa fb wb fc wc wd l4 l5 l6 l7 told = record {
-  long = long; args = told.args; interfaces = told.interfaces; fields = told.fields; slots = told.slots; size = told.size;
+  long = long;
+  args = told.args;
+  interfaces = told.interfaces;
+  fields = told.fields;
+  slots = told.slots;
+  size = told.size;
   canon_handle = subst (λ (k : Option Handle). IfSome k IsHandle) (ap (λ (e : Entry Handle). e.key) (sym told.first_is)) fa.1;
   parent_handle = subst (λ (k : Option Handle). IfSome k IsHandle) (ap (λ (e : Entry Handle). e.key) (sym told.second_is)) fb.1;
   element_handle = subst (λ (k : Option Handle). IfSome k IsHandle) (ap (λ (e : Entry Handle). e.key) (sym told.third_is)) fc.1;

@@ -1,7 +1,7 @@
 -- Interfaces one after the other.
-use Rattle.std.proofs.Common.{◌≡◌, ℕ, zero, suc, ◌+◌, ◌-◌, ◌*◌, ◌/◌, ◌<◌, ◌≤◌, List, [], ◌∷◌, ◌++◌, map, length, take, drop, Option, None, Some, refl, sym, ap, ◌∙◌, subst, arith, get_or, append_assoc}
+use Rattle.std.proofs.Common.{◌≡◌, ℕ, ◌+◌, ◌<◌, ◌≤◌, List, [], ◌∷◌, ◌++◌, map, length, take, drop, Option, Some, refl, sym, ap, ◌∙◌, subst, arith, get_or, append_assoc}
 use Rattle.std.specs.List.{flat_map, All}
-use Rattle.std.proofs.lemmas.List.{length-map, length-append, map-append, append-nil, length-take-le, take_at, drop_at, take-append-drop, drop_more, drop-drop, length-drop, drop_all, append_cancel_left}
+use Rattle.std.proofs.lemmas.List.{length-map, length-append, map-append, append-nil, length-take-le, take_at, drop_at, take-append-drop, drop_more, drop-drop, length-drop, drop_all}
 use Rattle.std.proofs.lemmas.Simd.{map-map}
 use Rattle.std.proofs.lemmas.List.Elements.{All-nil, All-cons, All-head, All-tail}
 use Rattle.clr_base.specs.declared.ids.Handle.{Handle}
@@ -137,7 +137,7 @@ pub first_made : {before own : ℕ} {words methods ws : List ℕ} {interface : H
 first_made {own = own} {methods = methods} {slots = slots} handle count ws_are are =
     let within : own ≤ length methods = count.within in
     let same : length slots ≡ own =
-        sym (length-map slots choice_word) ∙ ap length are.1 ∙ ap length ws_are ∙ length-take-le own methods within in
+    sym (length-map slots choice_word) ∙ ap length are.1 ∙ ap length ws_are ∙ length-take-le own methods within in
     record {
       handle = handle.0;
       fits = are.0;
@@ -199,17 +199,19 @@ module _ (words methods : List ℕ) (all : List Handle) (lists : Lists) (before 
           let joined = join before (get_or words i 0) (drop (i + 1) words) (drop before methods) f is ls first rest in
           let whole = on.sound (f.interface ∷ is) (f.slots ∷ ls) (subst (λ ws. AreInterfaces before ws (drop before methods) (f.interface ∷ is) (f.slots ∷ ls)) (sym here) joined) in
           subst (λ xs. AreInterfaces 0 words methods xs ((lists ++ f.slots ∷ []) ++ ls)) (sym (append_assoc all (f.interface ∷ []) is))
-            (subst (λ xs. AreInterfaces 0 words methods (all ++ (f.interface ∷ is)) xs) (sym (append_assoc lists (f.slots ∷ []) ls)) whole);
+          (subst (λ xs. AreInterfaces 0 words methods (all ++ (f.interface ∷ is)) xs) (sym (append_assoc lists (f.slots ∷ []) ls)) whole);
       complete = λ js ms are.
           let left = on.complete js ms are in
           let s = splits left.0 left.1 left.4 in
           let same : s.first ≡ f = one s.first (subst (λ ws. IsFirst before ws (drop before methods) s.first) (sym here) s.is_first) in
           let rest : AreInterfaces (before + length f.slots) (drop (i + 1) words) (drop (length f.slots) (drop before methods)) s.others s.other_lists =
-              subst (λ (x : FirstInterface). AreInterfaces (before + length x.slots) (drop (i + 1) words) (drop (length x.slots) (drop before methods)) s.others s.other_lists) same s.rest in
-          (s.others, s.other_lists,
-           left.2 ∙ ap (λ xs. all ++ xs) (s.interfaces_are ∙ ap (λ (x : FirstInterface). x.interface ∷ s.others) same) ∙ sym (append_assoc all (f.interface ∷ []) s.others),
-           left.3 ∙ ap (λ xs. lists ++ xs) (s.lists_are ∙ ap (λ (x : FirstInterface). x.slots ∷ s.other_lists) same) ∙ sym (append_assoc lists (f.slots ∷ []) s.other_lists),
-           subst (λ xs. AreInterfaces (before + length f.slots) (drop (i + 1) words) xs s.others s.other_lists) further rest);
+          subst (λ (x : FirstInterface). AreInterfaces (before + length x.slots) (drop (i + 1) words) (drop (length x.slots) (drop before methods)) s.others s.other_lists) same s.rest in (
+            s.others,
+            s.other_lists,
+            left.2 ∙ ap (λ xs. all ++ xs) (s.interfaces_are ∙ ap (λ (x : FirstInterface). x.interface ∷ s.others) same) ∙ sym (append_assoc all (f.interface ∷ []) s.others),
+            left.3 ∙ ap (λ xs. lists ++ xs) (s.lists_are ∙ ap (λ (x : FirstInterface). x.slots ∷ s.other_lists) same) ∙ sym (append_assoc lists (f.slots ∷ []) s.other_lists),
+            subst (λ xs. AreInterfaces (before + length f.slots) (drop (i + 1) words) xs s.others s.other_lists) further rest,
+          );
     }
 
 module _ (words methods : List ℕ) (all : List Handle) (lists : Lists) (before i : ℕ) (done : length words ≤ i) (on : GoesOn words methods all lists before i) where
@@ -220,10 +222,11 @@ module _ (words methods : List ℕ) (all : List Handle) (lists : Lists) (before 
   left_is js ms are =
       let left = on.complete js ms are in
       let rest = left.4 in
-      let none = no_words before left.0 left.1 rest.one_list_each (rest.words_are ∙ no_left) in
-      (left.2 ∙ ap (λ xs. all ++ xs) none.0 ∙ append-nil all,
-       left.3 ∙ ap (λ xs. lists ++ xs) none.1 ∙ append-nil lists,
-       sym rest.methods_are ∙ ap (λ (xs : Lists). map word_of (flat_map (map choice_entry) xs)) none.1)
+      let none = no_words before left.0 left.1 rest.one_list_each (rest.words_are ∙ no_left) in (
+        left.2 ∙ ap (λ xs. all ++ xs) none.0 ∙ append-nil all,
+        left.3 ∙ ap (λ xs. lists ++ xs) none.1 ∙ append-nil lists,
+        sym rest.methods_are ∙ ap (λ (xs : Lists). map word_of (flat_map (map choice_entry) xs)) none.1,
+      )
 
   pub one_end : (js : List Handle) (ms : Lists) → AreInterfaces 0 words methods js ms → (js ≡ all) × (ms ≡ lists)
   one_end js ms are = let l = left_is js ms are in (l.0, l.1)

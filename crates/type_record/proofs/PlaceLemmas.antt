@@ -1,10 +1,9 @@
 -- Where the parts of a record stand among its entries.
-use Rattle.std.proofs.Common.{◌≡◌, ℕ, zero, suc, ◌+◌, List, [], ◌∷◌, ◌++◌, map, length, take, Option, None, Some, slice_get, refl, sym, ap, ◌∙◌, subst, arith}
+use Rattle.std.proofs.Common.{◌≡◌, ℕ, zero, suc, ◌+◌, List, [], ◌∷◌, ◌++◌, map, length, take, Option, Some, slice_get, refl, sym, ap, ◌∙◌, arith}
 use Rattle.std.specs.Prelude.{option_map}
 use Rattle.std.specs.List.{flat_map}
 use Rattle.std.proofs.lemmas.List.{length-map, length-append}
 use Rattle.std.proofs.lemmas.Option.{slice_get-map}
-use Rattle.type_record.specs.declared.entry.Entry.{Entry}
 use Rattle.type_record.specs.declared.loaded.FieldOf.{FieldOf}
 use Rattle.type_record.specs.declared.loaded.SlotOf.{SlotOf}
 use Rattle.type_record.specs.declared.loaded.TypeRecord.{TypeRecord}
@@ -47,7 +46,7 @@ choice_at (l ∷ lists) zero n m list c at is same =
     let here : l ≡ list = cc in
     let low : m ≡ n = omega arith in
     in_left (map choice_entry l) (flat_map (map choice_entry) lists) m (choice_entry c)
-      (in_map choice_entry l m c (ap (λ x. slice_get x m) here ∙ ap (slice_get list) low ∙ is))
+    (in_map choice_entry l m c (ap (λ x. slice_get x m) here ∙ ap (slice_get list) low ∙ is))
 choice_at (l ∷ lists) (suc i) n m list c at is same =
     let more = methods_of l (take i lists) in
     let long = length-map l choice_entry in
@@ -86,18 +85,18 @@ lengths a b c d e nb nc nd ne lb lc ld le =
 
 record_lengths : {K : Type 0} (r : TypeRecord K) → IsCounted r
     → Lengths (front_entries r.shape r.canon r.parent r.element) (map arg_entry r.args) (interface_entries 0 r.interfaces r.interface_slots) (map field_entry r.fields) (map slot_entry r.slots)
-        r.shape.args r.shape.interfaces r.shape.fields r.shape.slots
+    r.shape.args r.shape.interfaces r.shape.fields r.shape.slots
 record_lengths r is =
     lengths (front_entries r.shape r.canon r.parent r.element) (map arg_entry r.args) (interface_entries 0 r.interfaces r.interface_slots) (map field_entry r.fields) (map slot_entry r.slots)
-      r.shape.args r.shape.interfaces r.shape.fields r.shape.slots
-      (length-map r.args arg_entry ∙ sym is.args) (interfaces_length 0 r.interfaces r.interface_slots ∙ sym is.interfaces)
-      (length-map r.fields field_entry ∙ sym is.fields) (length-map r.slots slot_entry ∙ sym is.slots)
+    r.shape.args r.shape.interfaces r.shape.fields r.shape.slots
+    (length-map r.args arg_entry ∙ sym is.args) (interfaces_length 0 r.interfaces r.interface_slots ∙ sym is.interfaces)
+    (length-map r.fields field_entry ∙ sym is.fields) (length-map r.slots slot_entry ∙ sym is.slots)
 
 pub argument_place : {K : Type 0} (r : TypeRecord K) → IsCounted r → (n : ℕ) (k : K) → slice_get r.args n ≡ Some k → slice_get (entries r) (8 + n) ≡ Some (arg_entry k)
 unfolding entries
 argument_place r is n k at =
     second_of (front_entries r.shape r.canon r.parent r.element) (map arg_entry r.args) (interface_entries 0 r.interfaces r.interface_slots) (map field_entry r.fields) (map slot_entry r.slots)
-      (flat_map (map choice_entry) r.interface_slots) 8 n (8 + n) (arg_entry k) refl refl (in_map arg_entry r.args n k at)
+    (flat_map (map choice_entry) r.interface_slots) 8 n (8 + n) (arg_entry k) refl refl (in_map arg_entry r.args n k at)
 
 pub interface_place : {K : Type 0} (r : TypeRecord K) → IsCounted r → (n : ℕ) (k : K) → slice_get r.interfaces n ≡ Some k
     → slice_get (entries r) (interfaces_at r.shape + n) ≡ Some (entry (method_count (take n r.interface_slots)) (Some k))
@@ -105,21 +104,21 @@ unfolding entries
 interface_place r is n k at =
     let none : 0 + method_count (take n r.interface_slots) ≡ method_count (take n r.interface_slots) = omega arith in
     third_of (front_entries r.shape r.canon r.parent r.element) (map arg_entry r.args) (interface_entries 0 r.interfaces r.interface_slots) (map field_entry r.fields) (map slot_entry r.slots)
-      (flat_map (map choice_entry) r.interface_slots) (interfaces_at r.shape) n (interfaces_at r.shape + n) (entry (method_count (take n r.interface_slots)) (Some k))
-      (record_lengths r is).two refl
-      (interface_at 0 r.interfaces r.interface_slots n k is.lists at ∙ ap (λ b. Some (entry b (Some k))) none)
+    (flat_map (map choice_entry) r.interface_slots) (interfaces_at r.shape) n (interfaces_at r.shape + n) (entry (method_count (take n r.interface_slots)) (Some k))
+    (record_lengths r is).two refl
+    (interface_at 0 r.interfaces r.interface_slots n k is.lists at ∙ ap (λ b. Some (entry b (Some k))) none)
 
 pub field_place : {K : Type 0} (r : TypeRecord K) → IsCounted r → (n : ℕ) (f : FieldOf K) → slice_get r.fields n ≡ Some f → slice_get (entries r) (fields_at r.shape + n) ≡ Some (field_entry f)
 unfolding entries
 field_place r is n f at =
     fourth_of (front_entries r.shape r.canon r.parent r.element) (map arg_entry r.args) (interface_entries 0 r.interfaces r.interface_slots) (map field_entry r.fields) (map slot_entry r.slots)
-      (flat_map (map choice_entry) r.interface_slots) (fields_at r.shape) n (fields_at r.shape + n) (field_entry f) (record_lengths r is).three refl (in_map field_entry r.fields n f at)
+    (flat_map (map choice_entry) r.interface_slots) (fields_at r.shape) n (fields_at r.shape + n) (field_entry f) (record_lengths r is).three refl (in_map field_entry r.fields n f at)
 
 pub slot_place : {K : Type 0} (r : TypeRecord K) → IsCounted r → (n : ℕ) (s : SlotOf K) → slice_get r.slots n ≡ Some s → slice_get (entries r) (slots_at r.shape + n) ≡ Some (slot_entry s)
 unfolding entries
 slot_place r is n s at =
     fifth_of (front_entries r.shape r.canon r.parent r.element) (map arg_entry r.args) (interface_entries 0 r.interfaces r.interface_slots) (map field_entry r.fields) (map slot_entry r.slots)
-      (flat_map (map choice_entry) r.interface_slots) (slots_at r.shape) n (slots_at r.shape + n) (slot_entry s) (record_lengths r is).four refl (in_map slot_entry r.slots n s at)
+    (flat_map (map choice_entry) r.interface_slots) (slots_at r.shape) n (slots_at r.shape + n) (slot_entry s) (record_lengths r is).four refl (in_map slot_entry r.slots n s at)
 
 pub interface_slot_place : {K : Type 0} (r : TypeRecord K) → IsCounted r → (i n : ℕ) (list : List (Option (SlotOf K))) (c : Option (SlotOf K))
     → slice_get r.interface_slots i ≡ Some list → slice_get list n ≡ Some c
@@ -127,5 +126,5 @@ pub interface_slot_place : {K : Type 0} (r : TypeRecord K) → IsCounted r → (
 unfolding entries
 interface_slot_place r is i n list c at in' =
     behind (front_entries r.shape r.canon r.parent r.element ++ map arg_entry r.args ++ interface_entries 0 r.interfaces r.interface_slots ++ map field_entry r.fields ++ map slot_entry r.slots)
-      (flat_map (map choice_entry) r.interface_slots) (interface_slots_at r.shape) (method_count (take i r.interface_slots) + n) (interface_slots_at r.shape + method_count (take i r.interface_slots) + n)
-      (choice_entry c) (record_lengths r is).five (omega arith) (choice_at r.interface_slots i n (method_count (take i r.interface_slots) + n) list c at in' refl)
+    (flat_map (map choice_entry) r.interface_slots) (interface_slots_at r.shape) (method_count (take i r.interface_slots) + n) (interface_slots_at r.shape + method_count (take i r.interface_slots) + n)
+    (choice_entry c) (record_lengths r is).five (omega arith) (choice_at r.interface_slots i n (method_count (take i r.interface_slots) + n) list c at in' refl)

@@ -1,6 +1,6 @@
 -- A record by the stretches of its words.
 use Rattle.std.proofs.Common.{◌≡◌, ℕ, ◌+◌, ◌-◌, ◌<◌, ◌≤◌, List, ◌++◌, map, length, take, drop, Option, refl, sym, ap, ◌∙◌, subst, arith}
-use Rattle.std.specs.List.{flat_map, All}
+use Rattle.std.specs.List.{flat_map}
 use Rattle.std.proofs.lemmas.List.{length-map, length-append, length-take-le, length-drop, map-append, append_assoc, take_at, drop_at, take-append-drop, drop-drop}
 use Rattle.std.proofs.lemmas.Simd.{map-map}
 use Rattle.clr_base.specs.declared.ids.Handle.{Handle}
@@ -11,8 +11,8 @@ use Rattle.type_record.specs.declared.loaded.SlotOf.{SlotOf}
 use Rattle.type_record.specs.declared.front.Front.{Front}
 use Rattle.type_record.specs.declared.loaded.TypeRecord.{TypeRecord}
 use Rattle.type_record.specs.Words.{word_of, IsHandle}
-use Rattle.type_record.specs.Room.{FieldFits, SlotFits, ChoiceFits}
-use Rattle.type_record.specs.Records.{arg_entry, field_entry, slot_entry, choice_entry, interface_entries, front_entries, entries, words_of, method_count, FieldHasNumber, SlotHasNumber, ChoiceHasNumber, FieldHasHandle, SlotHasHandle, ChoiceHasHandle}
+use Rattle.type_record.specs.Room.{FieldFits, SlotFits}
+use Rattle.type_record.specs.Records.{arg_entry, field_entry, slot_entry, choice_entry, interface_entries, front_entries, entries, words_of, method_count, FieldHasNumber, SlotHasNumber, FieldHasHandle, SlotHasHandle}
 use Rattle.type_record.specs.Sections.{interfaces_at, fields_at, slots_at, interface_slots_at, AreWords, AreInterfaces, IsFront, IsRead}
 use Rattle.type_record.proofs.EntryLemmas.{all_both, all_lists, interfaces_length, lists_length}
 
@@ -70,7 +70,7 @@ map_six w a b c d e f =
 -- the words of a record, stretch by stretch
 six_words : (r : TypeRecord Handle) → words_of r
     ≡ map word_of (front_entries r.shape r.canon r.parent r.element) ++ map word_of (map arg_entry r.args) ++ map word_of (interface_entries 0 r.interfaces r.interface_slots)
-      ++ map word_of (map field_entry r.fields) ++ map word_of (map slot_entry r.slots) ++ map word_of (flat_map (map choice_entry) r.interface_slots)
+    ++ map word_of (map field_entry r.fields) ++ map word_of (map slot_entry r.slots) ++ map word_of (flat_map (map choice_entry) r.interface_slots)
 unfolding entries
 six_words r = map_six word_of (front_entries r.shape r.canon r.parent r.element) (map arg_entry r.args) (interface_entries 0 r.interfaces r.interface_slots) (map field_entry r.fields)
     (map slot_entry r.slots) (flat_map (map choice_entry) r.interface_slots)
@@ -111,8 +111,8 @@ sections words r read =
     let e = map word_of (map slot_entry r.slots) in
     let f = map word_of (flat_map (map choice_entry) r.interface_slots) in
     let whole : map word_of (front_entries r.shape r.canon r.parent r.element) ++ map word_of (map arg_entry r.args) ++ map word_of (interface_entries 0 r.interfaces r.interface_slots)
-          ++ map word_of (map field_entry r.fields) ++ map word_of (map slot_entry r.slots) ++ map word_of (flat_map (map choice_entry) r.interface_slots) ≡ words =
-        sym (six_words r) ∙ read.words_are in
+    ++ map word_of (map field_entry r.fields) ++ map word_of (map slot_entry r.slots) ++ map word_of (flat_map (map choice_entry) r.interface_slots) ≡ words =
+    sym (six_words r) ∙ read.words_are in
     let la : length (map word_of (front_entries r.shape r.canon r.parent r.element)) ≡ 8 = refl in
     let lb : length (map word_of (map arg_entry r.args)) ≡ r.shape.args = six_lengths arg_entry r.args ∙ sym counted.args in
     let lc : length (map word_of (interface_entries 0 r.interfaces r.interface_slots)) ≡ r.shape.interfaces = interface_words_length r ∙ sym counted.interfaces in
@@ -139,20 +139,24 @@ sections words r read =
         words_are = sym (take_at a (b ++ (c ++ (d ++ (e ++ f)))) 8 la) ∙ ap (take 8) (none_first a b c d e f words whole);
       };
       at = record {
-      long = omega arith;
-      few = let m = small.methods in omega arith;
-      args = (handles.args, sym (map-map word_of arg_entry r.args) ∙ piece a b (c ++ (d ++ (e ++ f))) words 8 r.shape.args la lb (one_first a b c d e f words whole));
-      interfaces = record {
-        one_list_each = counted.lists;
-        handles = handles.interfaces;
-        fits = all_lists r.interface_slots numbers.interface_slots handles.interface_slots;
-        words_are = piece (a ++ b) c (d ++ (e ++ f)) words (interfaces_at r.shape) r.shape.interfaces lab lc (two_first a b c d e f words whole);
-        methods_are = tail (a ++ b ++ c ++ d ++ e) f words (interface_slots_at r.shape) labcde whole;
-      };
-      fields = (all_both FieldHasNumber FieldHasHandle r.fields numbers.fields handles.fields,
-        sym (map-map word_of field_entry r.fields) ∙ piece (a ++ b ++ c) d (e ++ f) words (fields_at r.shape) r.shape.fields labc ld (three_first a b c d e f words whole));
-      slots = (all_both SlotHasNumber SlotHasHandle r.slots numbers.slots handles.slots,
-        sym (map-map word_of slot_entry r.slots) ∙ piece (a ++ b ++ c ++ d) e f words (slots_at r.shape) r.shape.slots labcd le whole);
+        long = omega arith;
+        few = let m = small.methods in omega arith;
+        args = (handles.args, sym (map-map word_of arg_entry r.args) ∙ piece a b (c ++ (d ++ (e ++ f))) words 8 r.shape.args la lb (one_first a b c d e f words whole));
+        interfaces = record {
+          one_list_each = counted.lists;
+          handles = handles.interfaces;
+          fits = all_lists r.interface_slots numbers.interface_slots handles.interface_slots;
+          words_are = piece (a ++ b) c (d ++ (e ++ f)) words (interfaces_at r.shape) r.shape.interfaces lab lc (two_first a b c d e f words whole);
+          methods_are = tail (a ++ b ++ c ++ d ++ e) f words (interface_slots_at r.shape) labcde whole;
+        };
+        fields = (
+          all_both FieldHasNumber FieldHasHandle r.fields numbers.fields handles.fields,
+          sym (map-map word_of field_entry r.fields) ∙ piece (a ++ b ++ c) d (e ++ f) words (fields_at r.shape) r.shape.fields labc ld (three_first a b c d e f words whole),
+        );
+        slots = (
+          all_both SlotHasNumber SlotHasHandle r.slots numbers.slots handles.slots,
+          sym (map-map word_of slot_entry r.slots) ∙ piece (a ++ b ++ c ++ d) e f words (slots_at r.shape) r.shape.slots labcd le whole,
+        );
       };
     }
 
@@ -173,9 +177,9 @@ read_of_sections words r both =
     let slots = own_length slot_entry SlotFits words (slots_at r.shape) r.shape.slots r.slots (omega arith) s.slots in
     let behind = length-drop (interfaces_at r.shape) words in
     let interfaces : r.shape.interfaces ≡ length r.interfaces =
-        sym (length-take-le r.shape.interfaces (drop (interfaces_at r.shape) words) (omega arith)) ∙ sym (ap length s.interfaces.words_are) ∙ interface_words_length r in
+    sym (length-take-le r.shape.interfaces (drop (interfaces_at r.shape) words) (omega arith)) ∙ sym (ap length s.interfaces.words_are) ∙ interface_words_length r in
     let methods : method_count r.interface_slots ≡ length words - interface_slots_at r.shape =
-        sym (method_words_length r) ∙ ap length s.interfaces.methods_are ∙ length-drop (interface_slots_at r.shape) words in
+    sym (method_words_length r) ∙ ap length s.interfaces.methods_are ∙ length-drop (interface_slots_at r.shape) words in
     let few = s.few in
     let front_args = front.args in
     let front_interfaces = front.interfaces in
@@ -204,7 +208,7 @@ read_of_sections words r both =
       words_are =
           six_words r
           ∙ same_six front.words_are (map-map word_of arg_entry r.args ∙ s.args.1) s.interfaces.words_are (map-map word_of field_entry r.fields ∙ s.fields.1)
-              (map-map word_of slot_entry r.slots ∙ s.slots.1) s.interfaces.methods_are
+          (map-map word_of slot_entry r.slots ∙ s.slots.1) s.interfaces.methods_are
           ∙ rejoined words 8 r.shape.args r.shape.interfaces r.shape.fields r.shape.slots;
     }
 
@@ -222,15 +226,18 @@ moved_back fits told ws vs xs same are = (are.0, are.1 ∙ same)
 
 pub moved_interfaces : (ws vs ms ns : List ℕ) (is : List Handle) (ls : List (List (Option (SlotOf Handle)))) → ws ≡ vs → ms ≡ ns → AreInterfaces 0 ws ms is ls → AreInterfaces 0 vs ns is ls
 moved_interfaces ws vs ms ns is ls one other are = record {
-  one_list_each = are.one_list_each; handles = are.handles; fits = are.fits;
-  words_are = are.words_are ∙ one; methods_are = are.methods_are ∙ other;
+  one_list_each = are.one_list_each;
+  handles = are.handles;
+  fits = are.fits;
+  words_are = are.words_are ∙ one;
+  methods_are = are.methods_are ∙ other;
 }
 
 pub record_same : (x y : TypeRecord Handle) → front_part x ≡ front_part y → x.args ≡ y.args → x.interfaces ≡ y.interfaces → x.fields ≡ y.fields → x.slots ≡ y.slots
     → x.interface_slots ≡ y.interface_slots → x ≡ y
 record_same x y front args interfaces fields slots lists =
     let made : Front → List Handle → List Handle → List (FieldOf Handle) → List (SlotOf Handle) → List (List (Option (SlotOf Handle))) → TypeRecord Handle =
-        λ f a i d s l. record { shape = f.shape; parent = f.parent; canon = f.canon; element = f.element; args = a; interfaces = i; fields = d; slots = s; interface_slots = l } in
+    λ f a i d s l. record { shape = f.shape; parent = f.parent; canon = f.canon; element = f.element; args = a; interfaces = i; fields = d; slots = s; interface_slots = l } in
     ap (λ (f : Front). made f x.args x.interfaces x.fields x.slots x.interface_slots) front
     ∙ ap (λ a. made (front_part y) a x.interfaces x.fields x.slots x.interface_slots) args
     ∙ ap (λ i. made (front_part y) y.args i x.fields x.slots x.interface_slots) interfaces

@@ -1,5 +1,5 @@
 -- Words of items, one each.
-use Rattle.std.proofs.Common.{◌≡◌, ℕ, zero, suc, ◌+◌, ◌<◌, List, [], ◌∷◌, ◌++◌, map, length, get_or, Option, None, Some, refl, sym, ap, ◌∙◌, subst, arith}
+use Rattle.std.proofs.Common.{◌≡◌, ℕ, zero, suc, ◌<◌, List, [], ◌∷◌, ◌++◌, map, length, get_or, Some, refl, ap, ◌∙◌, arith}
 use Rattle.std.specs.List.{All}
 use Rattle.std.proofs.lemmas.List.{map_push}
 use Rattle.std.proofs.lemmas.List.Elements.{All-nil, All-cons, All-head, All-tail, All-push}
@@ -51,13 +51,14 @@ module _ {X : Type 0} (fits : X → Type 0) (told : X → Entry Handle) where
       → IsTheOne (λ x. fits x × (word_of (told x) ≡ w)) (Some y) → IsTheOne (AreWords fits told (ws ++ w ∷ [])) (Some (ys ++ y ∷ []))
   one_more ws w ys y before here =
       let words : map (λ x. word_of (told x)) (ys ++ y ∷ []) ≡ ws ++ w ∷ [] =
-          map_push (λ x. word_of (told x)) ys y ∙ ap (λ vs. vs ++ word_of (told y) ∷ []) before.0.1 ∙ ap (λ v. ws ++ v ∷ []) here.0.1 in
-      ((All-push fits ys y before.0.0 here.0.0, words),
-       λ xs are.
-         let ends = ends_of fits (λ x. word_of (told x)) ws w xs are.0 are.1 in
-         let front_is : ends.front ≡ ys = before.1 ends.front (ends.front_fits, ends.front_words) in
-         let last_is : ends.last ≡ y = here.1 ends.last (ends.last_fits, ends.last_word) in
-         ends.are ∙ ap (λ vs. vs ++ ends.last ∷ []) front_is ∙ ap (λ v. ys ++ v ∷ []) last_is)
+      map_push (λ x. word_of (told x)) ys y ∙ ap (λ vs. vs ++ word_of (told y) ∷ []) before.0.1 ∙ ap (λ v. ws ++ v ∷ []) here.0.1 in (
+        (All-push fits ys y before.0.0 here.0.0, words),
+        λ xs are.
+            let ends = ends_of fits (λ x. word_of (told x)) ws w xs are.0 are.1 in
+            let front_is : ends.front ≡ ys = before.1 ends.front (ends.front_fits, ends.front_words) in
+            let last_is : ends.last ≡ y = here.1 ends.last (ends.last_fits, ends.last_word) in
+            ends.are ∙ ap (λ vs. vs ++ ends.last ∷ []) front_is ∙ ap (λ v. ys ++ v ∷ []) last_is,
+      )
 
   pub none_at : (words : List ℕ) (i : ℕ) → i < length words → ((x : X) → fits x × (word_of (told x) ≡ get_or words i 0) → ⊥) → (xs : List X) → AreWords fits told words xs → ⊥
   none_at [] i low none xs are = absurd (omega arith)

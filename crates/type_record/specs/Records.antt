@@ -2,7 +2,6 @@
 use Rattle.std.specs.Prelude.{◌≡◌, ℕ, ◌+◌, ◌*◌, ◌<◌, ◌≤◌, List, [], ◌∷◌, ◌++◌, map, length, sum, Option, None, Some, IfSome}
 use Rattle.std.specs.List.{flat_map, All}
 use Rattle.clr_base.specs.declared.ids.Handle.{Handle}
-use Rattle.clr_base.specs.declared.ids.MethId.{MethId}
 use Rattle.type_record.specs.declared.entry.Entry.{Entry}
 use Rattle.type_record.specs.declared.shape.Form.{Form}
 use Rattle.type_record.specs.declared.shape.Form.TheVariants.{Class, Struct, Interface, Array, Method}

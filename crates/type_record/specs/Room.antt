@@ -1,5 +1,5 @@
 -- Parts of a record that have a word of their own: what fits there, and that it does.
-use Rattle.std.specs.Prelude.{◌≡◌, ℕ, ◌+◌, ◌<◌, Option, None, Some, IfSome}
+use Rattle.std.specs.Prelude.{ℕ, ◌<◌, Option, None, Some, IfSome}
 use Rattle.std.proofs.Common.{arith}
 use Rattle.clr_base.specs.declared.ids.Handle.{Handle}
 use Rattle.type_record.specs.declared.loaded.FieldOf.{FieldOf}

@@ -35,11 +35,7 @@ impl Entry<Handle> {
         if at > 262_144 {
             return None;
         }
-        let key = if at == 0 {
-            None
-        } else {
-            Some(Handle(at - 1))
-        };
+        let key = if at == 0 { None } else { Some(Handle(at - 1)) };
         Some(Entry {
             number: rest / 524_288,
             key,

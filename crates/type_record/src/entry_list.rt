@@ -103,10 +103,7 @@ fn field_entry<K: Copy>(field: &FieldOf<K>) -> Entry<K>
     }
 }
 
-fn push_fields<K: Copy>(
-    all: &mut Items<Entry<K>>,
-    fields: &[FieldOf<K>],
-) -> Result<(), Memory>
+fn push_fields<K: Copy>(all: &mut Items<Entry<K>>, fields: &[FieldOf<K>]) -> Result<(), Memory>
     ensures pushed { OnOk result (all.new ≡ all.old ++ map spec.field_entry fields.now) }
     ensures numbers { OnOk result (All FieldHasNumber fields.now) }
 {

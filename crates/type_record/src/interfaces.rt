@@ -39,7 +39,11 @@ fn interface_in(word: u64, before: u64) -> Option<Handle>
     ensures { IsTheOne (λ h. IsHandle h × (word_of (entry before (Some h)) ≡ word)) result }
 {
     let told = Entry::read(word)?;
-    if told.number == before { told.key } else { None }
+    if told.number == before {
+        told.key
+    } else {
+        None
+    }
 }
 
 // How many methods the first of the interfaces left has.

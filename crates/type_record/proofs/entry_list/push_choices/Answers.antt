@@ -1,5 +1,4 @@
 use Rattle.std.proofs.Common.{arith, subst}
-use Rattle.std.specs.List.{All}
 use Rattle.std.proofs.lemmas.Grind.{common_steps}
 use Rattle.std.proofs.lemmas.List.Elements.{All-more}
 use Rattle.type_record.specs.Records.{ChoiceHasNumber}

@@ -1,4 +1,4 @@
-use Rattle.std.proofs.Common.{◌≡◌, Option, None, true, sym, subst, ◌∙◌, get_or, rules}
+use Rattle.std.proofs.Common.{◌≡◌, None, sym, subst, ◌∙◌, get_or, rules}
 use Rattle.type_record.specs.TheOne.{IsTheOne}
 use Rattle.type_record.specs.Sections.{IsFront, IsFrontOf}
 use Rattle.type_record.proofs.TheOneLemmas.{the_same_one}
@@ -38,6 +38,6 @@ returns c =
     let three = c.in_ok-third.ensures in
     let four = c.in_ok-fourth.ensures in
     the_same_one (IsFrontOf a b d e) (IsFront words) c.front_of.result c.front_of.ensures
-      (λ x told. front_from words a b d e x c.if-words-lt8.false one.0.0 one.0.1 two.0.0 two.0.1 three.0.0 three.0.1 four.0.1 levels.0 levels.1 levels.2 levels.3 told)
-      (λ x is. front_told words a b d e x is (one.1 (first_of_front x) (told_first words x is)) (two.1 (second_of_front x) (told_second words x is))
-        (three.1 (third_of_front x) (told_third words x is)) (four.1 (fourth_of_front x) (told_fourth words x is)))
+    (λ x told. front_from words a b d e x c.if-words-lt8.false one.0.0 one.0.1 two.0.0 two.0.1 three.0.0 three.0.1 four.0.1 levels.0 levels.1 levels.2 levels.3 told)
+    (λ x is. front_told words a b d e x is (one.1 (first_of_front x) (told_first words x is)) (two.1 (second_of_front x) (told_second words x is))
+    (three.1 (third_of_front x) (told_third words x is)) (four.1 (fourth_of_front x) (told_fourth words x is)))

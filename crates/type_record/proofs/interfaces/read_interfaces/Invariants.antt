@@ -1,5 +1,4 @@
 -- What is left goes on from what is read.
-use Rattle.std.proofs.Common.{drop}
 use Rattle.type_record.proofs.InterfaceLemmas.{GoesOn}
 use Rattle.type_record.proofs.interfaces.read_interfaces.Given as goal
 

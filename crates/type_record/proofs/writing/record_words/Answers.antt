@@ -1,9 +1,9 @@
-use Rattle.std.proofs.Common.{◌≡◌, ◌<◌, ℕ, map, length, Some, None, slice_get, arith, rules, subst, sym, ap, ◌∙◌}
+use Rattle.std.proofs.Common.{◌≡◌, map, length, Some, None, slice_get, arith, rules, subst, sym, ap, ◌∙◌}
 use Rattle.std.proofs.lemmas.Grind.{common_steps}
 use Rattle.std.proofs.lemmas.List.{length-map}
 use Rattle.std.specs.List.{All}
 use Rattle.type_record.specs.Words.{word_of, FitsWord}
-use Rattle.type_record.specs.Records.{entries, word_count}
+use Rattle.type_record.specs.Records.{entries}
 use Rattle.type_record.proofs.EntryLemmas.{entries_room, entries_length, none_zero}
 use Rattle.type_record.proofs.writing.record_words.Goals as goal
 
