@@ -64,7 +64,8 @@ module _ {H : Type 0} (ms : List (Made H)) (bs : List ℕ) (rs : List Bool) (s :
         record {
           laid = rw end at (laid_more 0 ms (length rs) m laid.laid first some);
           eights = omega (arith, length-append bs b, length-append rs r, lb, lr, laid.eights);
-          limit = omega (arith, length-append bs b, limit) }
+          limit = omega (arith, length-append bs b, limit);
+        }
 
     pub added_is : added (record { of = m.of; count = m.count; bytes = b; refs = r }) s ≡ Ok (record { 0 = length ms + 1 }, objects_of (ms ++ m ∷ []) (bs ++ b) (rs ++ r))
     added_is =

@@ -78,7 +78,7 @@ module _ {H : Type 0} where
       let low : n.words ≤ at = omega (arith, f, p.low) in
       let inside : 8 * at + offset ≤ length bs = omega (arith, p.high, f, whole, eights, fits) in
       let more = objects_of-put (first + n.words) ms (drop (8 * n.words) bs) (drop n.words rs) end k (at - n.words) m one.rest
-          (omega (arith, whole, behind, length-drop n.words rs)) (omega (arith, eights, length-drop n.words rs, length-drop (8 * n.words) bs, behind, whole)) e (omega (arith, f, p.low)) offset ys fits in
+      (omega (arith, whole, behind, length-drop n.words rs)) (omega (arith, eights, length-drop n.words rs, length-drop (8 * n.words) bs, behind, whole)) e (omega (arith, f, p.low)) offset ys fits in
       let bytes : 8 * n.words + 8 * (at - n.words) ≡ 8 * at = omega (arith, low) in
       let marks : n.words + (at - n.words) ≡ at = omega (arith, low) in
       let place : 8 * at + offset - 8 * n.words ≡ 8 * (at - n.words) + offset = omega (arith, low) in
@@ -155,6 +155,6 @@ pub number_within : (first words offset width : ℕ) (bs : List ℕ) → offset 
 number_within first words offset width bs fits inside =
     let zs : List ℕ = drop (8 * first + offset) bs in
     let front : drop offset (take (8 * words) (drop (8 * first) bs)) ≡ take (8 * words - offset) zs =
-        ap (λ k. drop offset (take k (drop (8 * first) bs))) (omega arith) ∙ drop-take offset (8 * words - offset) (drop (8 * first) bs) ∙ ap (take (8 * words - offset)) (drop-drop offset (8 * first) bs) in
+    ap (λ k. drop offset (take k (drop (8 * first) bs))) (omega arith) ∙ drop-take offset (8 * words - offset) (drop (8 * first) bs) ∙ ap (take (8 * words - offset)) (drop-drop offset (8 * first) bs) in
     let long : width ≤ length (take (8 * words - offset) zs) = omega (arith, length-take (8 * words - offset) zs, length-drop (8 * first + offset) bs) in
     rw front (ap (little_number width) (sym (take-append-drop (8 * words - offset) zs)) ∙ little_from-append width (take (8 * words - offset) zs) (drop (8 * words - offset) zs) long)

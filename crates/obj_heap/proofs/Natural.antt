@@ -88,6 +88,7 @@ module _ {A B : Type 0} (f : A → B) where
       set : (n : ℕ) (o : Object A) → spec.object_set (map_objects f s) n (map_object f o) ≡ map_objects f (spec.object_set s n o)
       set zero o = refl
       set (suc k) o = sym (map-set (map_object f) s k o)
+
       go : (o : Option (Object A)) → option_map_or (λ x. spec.object_set (map_objects f s) p.object.0 (spec.written x p.offset width value)) (option_map (map_object f) o) (map_objects f s)
           ≡ map_objects f (option_map_or (λ x. spec.object_set s p.object.0 (spec.written x p.offset width value)) o s)
       go None = refl

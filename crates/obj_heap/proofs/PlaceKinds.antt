@@ -28,6 +28,7 @@ module _ (refs : List Bool) where
           go_on : (at / 8 ≡ a / 8) ⊎ (at / 8 ≢ a / 8) → (at / 8 ≡ a / 8) ⊎ (at / 8 ≡ b / 8)
           go_on (inl e) = inl e
           go_on (inr d) = inr (omega (arith, d, h, low, near))
+
       go : (at / 8 ≡ a / 8) ⊎ (at / 8 ≡ b / 8) → is_ref refs at ≡ false
       go (inl e) = ap (λ k. slice_index_or refs k false) e ∙ ha
       go (inr e) = ap (λ k. slice_index_or refs k false) e ∙ hb

@@ -29,7 +29,7 @@ pub filled_by : (refs element : List Bool) (lead times words : ℕ)
     ≡ refs ++ filled words (replicate lead false ++ repeat times element)
 filled_by refs element lead times words =
     let n : length (replicate lead false ++ repeat times element) ≡ lead + length element * times =
-        length-append (replicate lead false) (repeat times element) ∙ ap₂ (λ a b. a + b) (length-replicate lead false) (length-repeat times element) in
+    length-append (replicate lead false) (repeat times element) ∙ ap₂ (λ a b. a + b) (length-replicate lead false) (length-repeat times element) in
     let left : words - lead - length element * times ≡ words - (lead + length element * times) = omega arith in
     rw (n, left) (simp append_assoc)
 

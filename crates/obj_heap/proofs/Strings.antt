@@ -14,6 +14,6 @@ unfolding new_string string_object
 too_long h units s long =
     let rest = replicate (8 * words (string_size units) - string_size units) 0 in
     let size : 2 * length units ≤ length (string_bytes units ++ rest) =
-        omega (arith, length-append (string_bytes units) rest, length-append (replicate 16 0) (flat_map (little_bytes 2) units), length_units units) in
+    omega (arith, length-append (string_bytes units) rest, length-append (replicate 16 0) (flat_map (little_bytes 2) units), length_units units) in
     let past : nat_lt HEAP_LIMIT (total s + length (string_bytes units ++ rest)) ≡ true = lt-ltb _ _ (omega (arith, size, long)) in
     rw past refl

@@ -61,7 +61,8 @@ string_object h units = record {
   of = h;
   count = length units;
   bytes = string_bytes units ++ replicate (8 * words (string_size units) - string_size units) 0;
-  refs = filled (words (string_size units)) [] }
+  refs = filled (words (string_size units)) [];
+}
 
 -- the object with another name
 abbrev pub map_object : {A B : Type 0} → (A → B) → Object A → Object B

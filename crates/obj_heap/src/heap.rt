@@ -70,7 +70,14 @@ impl<H: Copy> Heap<H> {
         ensures kept { OnErr result (self.new ≡ self.old) }
     {
         let words = words_of(size);
-        begin(&mut self.made, &mut self.bytes, &mut self.refs, of, count, words)?;
+        begin(
+            &mut self.made,
+            &mut self.bytes,
+            &mut self.refs,
+            of,
+            count,
+            words,
+        )?;
         push_zeros(&mut self.bytes, 8 * words);
         push_refs(&mut self.refs, lead, element, times, words);
         Ok(ObjRef(self.made.as_slice().len() as u32))
@@ -92,7 +99,13 @@ impl<H: Copy> Heap<H> {
     /// Makes an array of so many elements, all 0, behind 16 bytes. `refs` says for each eight bytes of an
     /// element whether they are a reference's; it is empty where an element is numbers alone.
     #[tactic(none)]
-    pub fn new_array(&mut self, handle: H, element_size: u32, length: u32, refs: &[bool]) -> Result<ObjRef, HeapFault>
+    pub fn new_array(
+        &mut self,
+        handle: H,
+        element_size: u32,
+        length: u32,
+        refs: &[bool],
+    ) -> Result<ObjRef, HeapFault>
         requires { IsTrue (spec.are_whole element_size refs.now) }
         ensures made { Makes result self.new (spec.new_array handle element_size length refs.now self.old) }
         ensures full { (result ≡ Err HeapFault.HeapFull) ↔ (HEAP_LIMIT < spec.total self.old + 8 * words (array_size element_size length)) }
@@ -114,7 +127,14 @@ impl<H: Copy> Heap<H> {
         }
         let words = words_of(16 + 2 * units.len() as u64);
         let count = units.len() as u32;
-        begin(&mut self.made, &mut self.bytes, &mut self.refs, handle, count, words)?;
+        begin(
+            &mut self.made,
+            &mut self.bytes,
+            &mut self.refs,
+            handle,
+            count,
+            words,
+        )?;
         push_zeros(&mut self.bytes, 16);
         push_units(&mut self.bytes, units);
         push_zeros(&mut self.bytes, 8 * words - 16 - 2 * units.len());

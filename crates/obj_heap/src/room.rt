@@ -88,7 +88,13 @@ pub(crate) fn push_elements(refs: &mut Vec<bool>, element: &[bool], count: u32)
 
 /// Appends the marks of an object of so many words, where there is room for them: so many of numbers, those
 /// of equal elements, and again of numbers.
-pub(crate) fn push_refs(refs: &mut Vec<bool>, lead: usize, element: &[bool], times: u32, words: usize)
+pub(crate) fn push_refs(
+    refs: &mut Vec<bool>,
+    lead: usize,
+    element: &[bool],
+    times: u32,
+    words: usize,
+)
     requires room { vec_len refs.old + words ≤ vec_capacity refs.old }
     requires inside { lead + length element.now * times ≤ words }
     ensures { refs.new.items ≡ refs.old.items ++ filled words (replicate lead false ++ repeat times element.now) }

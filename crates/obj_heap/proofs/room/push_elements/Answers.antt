@@ -14,7 +14,8 @@ loop-i-preserved c =
     record {
       items = more_elements _ _ _ c.args.element.now c.loop-i._i c.loop-i.invariant.items items;
       len = omega (arith, len, c.loop-i.invariant.len, mul_more (length c.args.element.now) c.loop-i._i);
-      capacity = omega (arith, c.loop-i.invariant.capacity, c.extend_from_slice.ensures.capacity) }
+      capacity = omega (arith, c.loop-i.invariant.capacity, c.extend_from_slice.ensures.capacity);
+    }
 
 pub unwrap-requires : goal.unwrap-requires
 unwrap-requires c = c.extend_from_slice.ensures.succeeds (room_for_one (length c.args.element.now) c.loop-i._i c.args.count _ _ _ c.loop-i-test.true c.loop-i.invariant.len (omega (arith, c.requires, c.loop-i.invariant.capacity)))

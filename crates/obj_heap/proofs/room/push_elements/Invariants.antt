@@ -6,4 +6,5 @@ abbrev pub invariant-loop-i : goal.invariant-loop-i
 invariant-loop-i l = record {
   items : l.refs.items ≡ l.initial.refs.items ++ repeat l._i l.element;
   len : vec_len l.refs ≡ vec_len l.initial.refs + length l.element * l._i;
-  capacity : vec_capacity l.initial.refs ≤ vec_capacity l.refs }
+  capacity : vec_capacity l.initial.refs ≤ vec_capacity l.refs;
+}

@@ -64,7 +64,7 @@ invariant_of-self-2 g c =
     let room : length c.self.inside.bytes.items + length (replicate (8 * c.words_of-words.result) 0) ≤ 16777216 = omega (arith, limit, lb) in
     let made = rw c.in_ok-begin.was at c.begin.ensures.made in
     rw (made, c.push_zeros.ensures.items, c.begin.ensures.bytes, c.push_refs.ensures, c.begin.ensures.refs)
-      (added_laid c.self.inside.made.items c.self.inside.bytes.items c.self.inside.refs.items c.args.self.now c.self.view_is c.self.invariant (record { of = c.args.of; count = c.args.count; first = length c.self.inside.refs.items; words = c.words_of-words.result }) (replicate (8 * c.words_of-words.result) 0) (filled c.words_of-words.result (replicate c.args.lead false ++ repeat c.args.times c.args.element.now)) refl some lb lr room)
+    (added_laid c.self.inside.made.items c.self.inside.bytes.items c.self.inside.refs.items c.args.self.now c.self.view_is c.self.invariant (record { of = c.args.of; count = c.args.count; first = length c.self.inside.refs.items; words = c.words_of-words.result }) (replicate (8 * c.words_of-words.result) 0) (filled c.words_of-words.result (replicate c.args.lead false ++ repeat c.args.times c.args.element.now)) refl some lb lr room)
 
 pub returns-clause-made : goal.returns-clause-made
 unfolding blank
@@ -77,7 +77,7 @@ returns-clause-made g c =
     let room : length c.self.inside.bytes.items + length (replicate (8 * c.words_of-words.result) 0) ≤ 16777216 = omega (arith, limit, lb) in
     let made = rw c.in_ok-begin.was at c.begin.ensures.made in
     rw (← c.words_of-words.ensures, c.as_slice.ensures.value, made, c.push_zeros.ensures.items, c.begin.ensures.bytes, c.push_refs.ensures, c.begin.ensures.refs, length_push c.self.inside.made.items (record { of = c.args.of; count = c.args.count; first = length c.self.inside.refs.items; words = c.words_of-words.result }))
-      (added_is c.self.inside.made.items c.self.inside.bytes.items c.self.inside.refs.items c.args.self.now c.self.view_is c.self.invariant (record { of = c.args.of; count = c.args.count; first = length c.self.inside.refs.items; words = c.words_of-words.result }) (replicate (8 * c.words_of-words.result) 0) (filled c.words_of-words.result (replicate c.args.lead false ++ repeat c.args.times c.args.element.now)) refl some lb lr room)
+    (added_is c.self.inside.made.items c.self.inside.bytes.items c.self.inside.refs.items c.args.self.now c.self.view_is c.self.invariant (record { of = c.args.of; count = c.args.count; first = length c.self.inside.refs.items; words = c.words_of-words.result }) (replicate (8 * c.words_of-words.result) 0) (filled c.words_of-words.result (replicate c.args.lead false ++ repeat c.args.times c.args.element.now)) refl some lb lr room)
 
 pub returns-clause-full : goal.returns-clause-full
 returns-clause-full g c =

@@ -19,4 +19,4 @@ pub returns : goal.returns
 returns g c =
     let fits : nat_lt (8 * c.in-Some.made.words) (c.args.place.offset + c.args.width) ≡ false = le-ltb _ _ (omega (arith, c.if-from.false, c.from.ensures, c.from-2.ensures, c.from-3.ensures)) in
     rw (seen_some c.deref.result.now c.self.inside.made.items c.self.inside.bytes.items c.self.inside.refs.items c.args.self.now c.deref.ensures.value c.self.view_is c.self.invariant c.args.place.object.0 c.noted.result c.noted.ensures _ c.in-Some.is, seen_length c.deref.result.now c.self.inside.made.items c.self.inside.bytes.items c.self.inside.refs.items c.args.self.now c.deref.ensures.value c.self.view_is c.self.invariant c.args.place.object.0 c.noted.result c.noted.ensures _ c.in-Some.is, fits, c.kind_of.ensures, c.deref-2.ensures.value)
-      (ap (λ k. kind_in (take k (drop c.in-Some.made.first c.self.inside.refs.items)) c.args.place.offset c.args.width) (omega arith))
+    (ap (λ k. kind_in (take k (drop c.in-Some.made.first c.self.inside.refs.items)) c.args.place.offset c.args.width) (omega arith))

@@ -96,7 +96,7 @@ invariant_of-self-2 g c =
     let room : length c.self.inside.bytes.items + length ((replicate 16 0 ++ flat_map (little_bytes 2) c.args.units.now) ++ replicate (8 * c.words_of-words.result - 16 - 2 * length c.args.units.now) 0) ≤ 16777216 = omega (arith, limit, lb) in
     let made = rw c.in_ok-begin.was at c.begin.ensures.made in
     rw (made, c.push_zeros-2.ensures.items, c.push_units.ensures.items, c.push_zeros.ensures.items, c.begin.ensures.bytes, c.push_numbers.ensures.items, c.begin.ensures.refs, string_by)
-      (added_laid c.self.inside.made.items c.self.inside.bytes.items c.self.inside.refs.items c.args.self.now c.self.view_is c.self.invariant (record { of = c.args.handle; count = length c.args.units.now; first = length c.self.inside.refs.items; words = c.words_of-words.result }) ((replicate 16 0 ++ flat_map (little_bytes 2) c.args.units.now) ++ replicate (8 * c.words_of-words.result - 16 - 2 * length c.args.units.now) 0) (replicate c.words_of-words.result false) refl some lb lr room)
+    (added_laid c.self.inside.made.items c.self.inside.bytes.items c.self.inside.refs.items c.args.self.now c.self.view_is c.self.invariant (record { of = c.args.handle; count = length c.args.units.now; first = length c.self.inside.refs.items; words = c.words_of-words.result }) ((replicate 16 0 ++ flat_map (little_bytes 2) c.args.units.now) ++ replicate (8 * c.words_of-words.result - 16 - 2 * length c.args.units.now) 0) (replicate c.words_of-words.result false) refl some lb lr room)
 
 pub returns-clause-made : goal.returns-clause-made
 unfolding new_string string_object
@@ -110,7 +110,7 @@ returns-clause-made g c =
     let rest : 8 * c.words_of-words.result - (16 + 2 * length c.args.units.now) ≡ 8 * c.words_of-words.result - 16 - 2 * length c.args.units.now = omega arith in
     let all : c.words_of-words.result - 0 ≡ c.words_of-words.result = omega arith in
     rw (← c.words_of-words.ensures, rest, all, c.as_slice.ensures.value, made, c.push_zeros-2.ensures.items, c.push_units.ensures.items, c.push_zeros.ensures.items, c.begin.ensures.bytes, c.push_numbers.ensures.items, c.begin.ensures.refs, string_by, length_push c.self.inside.made.items (record { of = c.args.handle; count = length c.args.units.now; first = length c.self.inside.refs.items; words = c.words_of-words.result }))
-      (added_is c.self.inside.made.items c.self.inside.bytes.items c.self.inside.refs.items c.args.self.now c.self.view_is c.self.invariant (record { of = c.args.handle; count = length c.args.units.now; first = length c.self.inside.refs.items; words = c.words_of-words.result }) ((replicate 16 0 ++ flat_map (little_bytes 2) c.args.units.now) ++ replicate (8 * c.words_of-words.result - 16 - 2 * length c.args.units.now) 0) (replicate c.words_of-words.result false) refl some lb lr room)
+    (added_is c.self.inside.made.items c.self.inside.bytes.items c.self.inside.refs.items c.args.self.now c.self.view_is c.self.invariant (record { of = c.args.handle; count = length c.args.units.now; first = length c.self.inside.refs.items; words = c.words_of-words.result }) ((replicate 16 0 ++ flat_map (little_bytes 2) c.args.units.now) ++ replicate (8 * c.words_of-words.result - 16 - 2 * length c.args.units.now) 0) (replicate c.words_of-words.result false) refl some lb lr room)
 
 pub returns-clause-full : goal.returns-clause-full
 returns-clause-full g c =

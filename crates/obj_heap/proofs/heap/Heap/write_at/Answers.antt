@@ -23,4 +23,4 @@ returns g c =
     let room : at + length ys ≤ length c.as_mut_slice.result.now = rw (n, c.as_mut_slice.ensures.value) (omega (arith, i.0, i.1)) in
     let same : length c.write_number.new.bytes ≡ c.self.inside.bytes.len = omega (arith, ap length c.write_number.ensures, length-put at ys c.as_mut_slice.result.now room, c.as_mut_slice.ensures.len) in
     rw (with_items_is c.self.inside.bytes c.write_number.new.bytes same, c.write_number.ensures, c.as_mut_slice.ensures.value)
-      (seen_put c.deref.result.now c.self.inside.made.items c.self.inside.bytes.items c.self.inside.refs.items c.args.self.now c.deref.ensures.value c.self.view_is c.self.invariant c.args.place.object.0 c.noted.result c.noted.ensures _ c.unwrap-made.ensures c.args.place.offset ys (rw n i.0))
+    (seen_put c.deref.result.now c.self.inside.made.items c.self.inside.bytes.items c.self.inside.refs.items c.args.self.now c.deref.ensures.value c.self.view_is c.self.invariant c.args.place.object.0 c.noted.result c.noted.ensures _ c.unwrap-made.ensures c.args.place.offset ys (rw n i.0))
