@@ -2,6 +2,7 @@ use Rattle.std.proofs.Common.{◌<◌, ◌∙◌, ℕ, ◌-◌, List, [], Some, 
 use Rattle.std.proofs.lemmas.List.{length-map}
 use Rattle.world_build.specs.Images.{bytes_of_each}
 use Rattle.clr_core.specs.Command.{texts_of}
+use Rattle.clr_core.specs.Names.{names_text}
 use Rattle.clr_core.proofs.Checking.{given_image, number_within, files_fault, files_text}
 use Rattle.clr_core.proofs.FileWords.{as_many, word_found}
 use Rattle.clr_core.proofs.top.text_of.Goals as goal
@@ -41,4 +42,6 @@ returns-in-Err-Image-clause-stopped c =
     )
 
 pub returns-in-Ok-names_text-clause-text : goal.returns-in-Ok-names_text-clause-text
-returns-in-Ok-names_text-clause-text c = ?
+returns-in-Ok-names_text-clause-text c =
+    files_text (texts_of c.args.names.now) (bytes_of_each c.args.files.now) c.in-Ok.images c.in-Ok-names_text.text c.in-Ok.ensures.exact
+    (c.in-Ok-names_text.ensures ∙ ap (names_text (texts_of c.args.names.now)) c.as_slice.ensures)
