@@ -34,11 +34,13 @@ key_put old new k found i once made stored same = elim (cases_Bool (list_any (sa
   | inl there ↦ let stays : new ≡ old = made ∙ ap (λ b. cond b old (old ++ k ∷ [])) there in record {
     once = subst NodesOnce (sym stays) once;
     grows = ([], stays ∙ sym (append-nil old));
+    adds = inl stays;
     here = here;
   }
   | inr absent ↦ let adds : new ≡ old ++ k ∷ [] = made ∙ ap (λ b. cond b old (old ++ k ∷ [])) absent in record {
     once = subst NodesOnce (sym adds) (once_grown old k once absent);
     grows = (k ∷ [], adds);
+    adds = inr adds;
     here = here;
   }
 ]

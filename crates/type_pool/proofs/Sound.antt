@@ -13,7 +13,7 @@ use Rattle.type_pool.specs.declared.nodes.Id.{Id}
 use Rattle.type_pool.specs.declared.nodes.Node.{Node}
 use Rattle.type_pool.specs.declared.nodes.Entry.{Entry}
 use Rattle.type_pool.specs.NodeSame.{same_entry, level_is, is_level}
-use Rattle.type_pool.specs.Trees.{at, tree_of, parts_below, mark_of, spelled, spelled_on, IsEntry, EachOnce, IsSound, Interned, Grows, Spells}
+use Rattle.type_pool.specs.Trees.{AddsAtMost, at, tree_of, parts_below, mark_of, spelled, spelled_on, IsEntry, EachOnce, IsSound, Interned, Grows, Spells}
 use Rattle.type_pool.proofs.Gets.{get_cases, get_grows, get_last, any_at}
 use Rattle.type_pool.proofs.Levels.{tree_of-grows, level_of, level_of-tree, parts_below-more}
 
@@ -134,8 +134,8 @@ pub interned : (es new : List Entry) (e k : Entry) (i : ℕ) → IsSound (spelle
     → e.mark ≡ mark_of (tree_of (spelled es) e.node) → new ≡ insert_key same_entry es e → slice_get new i ≡ Some k → same_entry e k ≡ true
     → Interned es new i e.node
 interned es new e k i sound below marked made stored same = elim (cases_Bool (list_any (same_entry e) es)) [
-  | inl there ↦ finish ([], append-from there) (subst (λ l. IsSound (spelled l) l) (sym (stays there)) sound)
-  | inr absent ↦ finish (tree_of (spelled es) e.node ∷ [], ap spelled (adds absent) ∙ spelled-push es e)
+  | inl there ↦ finish ([], append-from there) (inl (ap spelled (stays there))) (subst (λ l. IsSound (spelled l) l) (sym (stays there)) sound)
+  | inr absent ↦ finish (tree_of (spelled es) e.node ∷ [], ap spelled (adds absent) ∙ spelled-push es e) (inr (ap spelled (adds absent) ∙ spelled-push es e))
       (subst (λ l. IsSound (spelled l) l) (sym (adds absent)) (subst (λ ts. IsSound ts (es ++ e ∷ [])) (sym (spelled-push es e))
       (push_sound (spelled es) es e sound (ap (λ n. parts_below n e.node) (sym sound.as_long) ∙ below) marked absent)))
 ]
@@ -149,13 +149,15 @@ interned es new e k i sound below marked made stored same = elim (cases_Bool (li
     append-from : list_any (same_entry e) es ≡ true → spelled new ≡ spelled es ++ []
     append-from there = ap spelled (stays there) ∙ sym (append-nil (spelled es))
 
-    finish : Grows (spelled es) (spelled new) → IsSound (spelled new) new → Interned es new i e.node
-    finish grows new_sound =
+    finish : Grows (spelled es) (spelled new) → AddsAtMost (spelled es) (spelled new) (tree_of (spelled es) e.node) → IsSound (spelled new) new
+        → Interned es new i e.node
+    finish grows added new_sound =
         let tree = tree_of-grows (spelled es) grows.0 e.node below in
         let here = present_spells (spelled new) new i k e new_sound stored same in
         let spells = here ∙ ap (λ ts. Some (tree_of ts e.node)) grows.1 ∙ ap Some tree in record {
           sound = new_sound;
           grows = grows;
+          adds = added;
           within = slice_get_within (spelled new) i (tree_of (spelled es) e.node) spells;
           spells = spells;
         }

@@ -11,7 +11,7 @@ use Rattle.type_pool.specs.declared.nodes.Node.{Node}
 use Rattle.type_pool.specs.declared.nodes.Node.TheVariants.{Inst}
 use Rattle.type_pool.specs.declared.key_nodes.KeyNode.{KeyNode}
 use Rattle.type_pool.specs.declared.key_nodes.KeyNode.TheVariants.{Tree, Meth}
-use Rattle.type_pool.specs.Trees.{at, at_all, ids_below}
+use Rattle.type_pool.specs.Trees.{AddsAtMost, at, at_all, ids_below}
 
 -- the key over the trees of a pool
 abbrev pub key_at : List Ty → KeyNode → key.Key
@@ -51,4 +51,5 @@ NodesGrow old new = (more : List KeyNode) × (new ≡ old ++ more)
 pub record KeyPut (old new : List KeyNode) (i : ℕ) (k : KeyNode) : Type 0 where
   pub once : NodesOnce new
   pub grows : NodesGrow old new
+  pub adds : AddsAtMost old new k
   pub here : slice_get new i ≡ Some k

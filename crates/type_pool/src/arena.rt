@@ -2,7 +2,7 @@
 
 ghost use Rattle.std.specs.Prelude.{◌≡◌, ◌<◌, ◌+◌, ◌↔◌, [], true, length, min, IsTrue, IfOk, OnErr};
 ghost use Rattle.type_tree.specs.Measure.{depth, weight, depth_of_all, weight_of_all};
-ghost use Rattle.type_pool.specs.Trees.{at, at_all, tree_of, mark_of, ids_below, parts_below, spelled, EachOnce, IsSound, Interned, Grows, Spells};
+ghost use Rattle.type_pool.specs.Trees.{at, at_all, tree_of, mark_of, ids_below, parts_below, spelled, EachOnce, IsSound, Interned, AddsAtMost, Grows, Spells};
 
 use crate::nodes::{Entry, Id, Mark, Node};
 use clr_base::Memory;
@@ -123,10 +123,12 @@ impl Pool {
         }
     }
 
-    /// The tree of a level: the one that the pool has, or a new one.
+    /// The tree of a level: the one that the pool has, or a new one. Memory also where there are 2^32 - 1 trees.
     pub fn intern(&mut self, node: Node) -> Result<Id, Memory>
         requires { parts_below (length self.old) node ≡ true }
         ensures grows { Grows self.old self.new }
+        ensures adds { IfOk result (λ _. AddsAtMost self.old self.new (tree_of self.old node)) }
+        ensures err { OnErr result (self.new ≡ self.old) }
         ensures spells { IfOk result (λ id. Spells self.new id (tree_of self.old node)) }
     {
         let mark = self.mark_of_level(&node);

@@ -134,7 +134,8 @@ pub(crate) fn shared_all(
     Ok(done)
 }
 
-/// The canonical form of a tree, by notes that serve many trees of one world.
+/// The canonical form of a tree, by notes that serve many trees of one world. Recurses as deep as the tree: test its mark
+/// first. After Memory the notes aren't to be used again.
 pub fn canon_noted(
     pool: &mut Pool,
     alloc: Global,
@@ -151,7 +152,7 @@ pub fn canon_noted(
     canon_in(pool, alloc, id, world, memo)
 }
 
-/// The canonical form of a tree.
+/// The canonical form of a tree. Recurses as deep as the tree: test its mark first.
 pub fn canon(pool: &mut Pool, alloc: Global, id: Id, world: &World) -> Result<Id, Memory>
     requires { id.0 < length pool.old }
     ensures grows { Grows pool.old pool.new }

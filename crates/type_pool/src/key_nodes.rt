@@ -3,6 +3,7 @@
 ghost use Rattle.std.specs.Prelude.{◌≡◌, ◌<◌, ◌↔◌, [], Some, slice_get, length, fold, IsTrue, IfOk, OnErr};
 ghost use Rattle.type_pool.specs.KeyFed.{key_input};
 ghost use Rattle.type_pool.specs.Keys.{NodesOnce, NodesGrow, KeyPut};
+ghost use Rattle.type_pool.specs.Trees.{AddsAtMost};
 
 use crate::nodes::{Id, feed_ids, same_ids};
 use clr_base::{Memory, MethId};
@@ -143,6 +144,8 @@ impl Keys {
     /// The number of a key, which is put in where it is new. Memory also where there are 2^32 - 1.
     pub fn intern(&mut self, key: KeyNode) -> Result<KeyId, Memory>
         ensures grows { NodesGrow self.old self.new }
+        ensures adds { IfOk result (λ _. AddsAtMost self.old self.new key) }
+        ensures err { OnErr result (self.new ≡ self.old) }
         ensures named { IfOk result (λ id. slice_get self.new id.0 ≡ Some key) }
     {
         if self.nodes.len() >= u32::MAX as usize {

@@ -1,4 +1,4 @@
-//! One level of a tree, whose parts are named by their indices in a pool.
+//! One level of a tree, whose parts are named by their numbers in a pool.
 
 ghost use Rattle.std.specs.Prelude.{◌≡◌, ◌↔◌, IsTrue, fold};
 ghost use Rattle.type_pool.specs.Fed.{ids_input, node_input};
@@ -7,27 +7,37 @@ use clr_base::{DefId, NameId};
 use sqlite_items::Items;
 use std::hash::{Hash, Hasher};
 
-/// A tree of a pool.
+/// The number of a tree of a pool, from 0.
 #[derive(Clone, Copy, PartialEq, Eq)]
 pub struct Id(pub u32);
 
-/// One level of a tree.
+/// One level of a tree (`type_tree::Ty`), with numbers of trees in place of its parts.
 #[derive(Drop)]
 pub enum Node {
+    /// A definition with its arguments.
     Inst(DefId, Items<Id>),
+    /// An array of this element.
     Array(Id),
+    /// A managed pointer to this type.
     ByRef(Id),
+    /// An unmanaged pointer to this type.
     Ptr(Id),
+    /// The generic parameter of a type with this number, from 0.
     Var(u32),
+    /// The generic parameter of a method with this number, from 0.
     MVar(u32),
+    /// A name that no definition has; true for a value type.
     Missing(NameId, bool),
+    /// A form that is left out, with its code in the signature.
     Odd(u8),
 }
 
 /// How deep and how heavy a tree is, each up to the largest number.
 #[derive(Clone, Copy, PartialEq, Eq)]
 pub struct Mark {
+    /// In levels: 1 for a tree without parts.
     pub depth: u32,
+    /// In nodes, each counted as often as it stands in the tree.
     pub weight: u32,
 }
 

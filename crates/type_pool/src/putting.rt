@@ -121,7 +121,8 @@ pub(crate) fn put_in_all(
     Ok(done)
 }
 
-/// The tree with `types` and `methods` put in for its variables; a variable past its list stays.
+/// The tree with `types` and `methods` put in for its variables; a variable past its list stays. Recurses as deep as the
+/// tree: test its mark first.
 pub fn subst(
     pool: &mut Pool,
     alloc: Global,
