@@ -5,3 +5,4 @@ pub mod WordLemmas
 pub mod FrontLemmas
 pub mod RecordLemmas
 pub mod PlaceLemmas
+pub mod NamingLemmas

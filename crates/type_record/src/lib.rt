@@ -8,6 +8,8 @@ mod in_word;
 mod interfaces;
 mod laws;
 mod loaded;
+mod naming;
+mod pairs;
 mod reading;
 mod shape;
 mod writing;
@@ -23,6 +25,8 @@ pub use loaded::{
     FieldOf, HandleList, InterfaceSlotList, Record, RecordField, RecordFieldList, SlotAt, SlotList,
     SlotOf, TypeRecord,
 };
+pub use naming::{Handles, record_of};
+pub use pairs::HandlePairs;
 pub use reading::read_record;
 pub use shape::{Form, Shape};
 pub use writing::record_words;
