@@ -1,4 +1,4 @@
-//! The table of method bodies: each is decoded once, at its first call, by whichever thread comes first.
+//! The table of method bodies: each is decoded at its first call, and kept for all threads.
 #![tactic(auto)]
 
 mod kept;

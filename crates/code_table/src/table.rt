@@ -26,7 +26,7 @@ struct Slot {
     ghost short: { ForSome bytes (λ b. length b < 2 ^ 32) },
 }
 
-/// The bodies of all methods of a world, each decoded at its first call, once for all threads. Contracts
+/// The bodies of all methods of a world, each decoded at its first call and kept for all threads. Contracts
 /// see the bytes of each method's body, in the order of the methods.
 #[derive(Drop)]
 pub struct CodeTable {
