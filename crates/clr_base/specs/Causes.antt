@@ -1,25 +1,16 @@
--- When a thing outside may answer that it failed: only where its count of faults has risen.
-use Rattle.std.specs.Prelude.{◌≡◌, ℕ, ◌+◌, ◌-◌, ◌^◌, ◌≤◌, min, Result, Ok, Err, OnErr, IsErrOf}
+-- Counts of what happened outside: how often a file was asked for, and how often a thing failed.
+use Rattle.std.specs.Prelude.{◌≡◌, ℕ, zero, suc, ◌+◌, ◌-◌, ◌^◌, max, min, Result, Ok, Err}
 use Rattle.clr_base.specs.declared.outside.FetchFault.{FetchFault}
 use Rattle.clr_base.specs.declared.outside.FetchFault.TheVariants as fetch
 
 -- one more, up to the last value of a count, where it stays
 abbrev pub counted : ℕ → ℕ
-counted n = min (n + 1) (2 ^ 64 - 1)
+counted n = max n (min (n + 1) (2 ^ 64 - 1))
 
--- the count has risen, or stands at its last value
-abbrev pub Rose : ℕ → ℕ → Type 0
-Rose before now = counted before ≤ now
-
--- The count doesn't fall, and an error comes only where it rose.
-pub record HasCause {T E : Type 0} (before now : ℕ) (result : Result T E) : Type 0 where
-  pub later : before ≤ now
-  pub failed : OnErr result (Rose before now)
-
--- The same of a call that may also run out of memory.
-pub record FetchHasCause {T : Type 0} (before now : ℕ) (result : Result T FetchFault) : Type 0 where
-  pub later : before ≤ now
-  pub failed : IsErrOf result fetch.Failed → Rose before now
+-- so many more, one by one
+abbrev pub counted_times : ℕ → ℕ → ℕ
+counted_times zero n = n
+counted_times (suc k) n = counted (counted_times k n)
 
 -- The count rises by one exactly where the call fails.
 abbrev pub Counts : {T E : Type 0} → ℕ → ℕ → Result T E → Type 0

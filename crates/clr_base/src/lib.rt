@@ -16,7 +16,10 @@ mod real;
 pub use checked::check;
 pub use failures::{HistoryFull, Memory, TableFull};
 pub use gate::{Gate, OpenGate};
-pub use ids::{DefId, FieldId, Handle, MethId, NameId, SigId};
+pub use ids::{
+    CORE_DEF_COUNT, CORE_METHOD_COUNT, CORE_SIG_COUNT, DefId, FieldId, Handle, MethId, NameId,
+    SigId,
+};
 pub use image_fault::{FaultKind, ImageFault};
 pub use lines::{Piece, put_all, put_pieces};
 pub use lists::{Bytes, Text};

@@ -81,6 +81,15 @@ impl Text {
         }
     }
 
+    /// The empty text, with room for so many bytes.
+    pub fn with_capacity(alloc: Global, capacity: usize) -> Result<Text, AllocError>
+        ensures { IfOk result (λ text. text ≡ []) }
+    {
+        Ok(Text {
+            text: String::with_capacity(alloc, capacity)?,
+        })
+    }
+
     /// A copy of a text.
     pub fn from_str(alloc: Global, text: &str) -> Result<Text, AllocError>
         ensures { IfOk result (λ copy. copy ≡ text.now) }

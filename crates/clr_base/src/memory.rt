@@ -1,7 +1,7 @@
 //! A shelf and a sink in memory, which tell what they hold and fail by a script.
 ghost use Rattle.std.specs.Prelude.{◌≡◌, ◌+◌, ◌-◌, ◌<◌, ◌≤◌, ◌↔◌, ◌⊎◌, ℕ, [], Some, None, IfOk, IsErr, IsErrOf, Contains, length, min, vec_len, vec_capacity};
 ghost use Rattle.std.specs.Option.{option_copied};
-ghost use Rattle.clr_base.specs.Causes.{HasCause, FetchHasCause, Counts, FetchCounts, counted};
+ghost use Rattle.clr_base.specs.Causes.{Counts, FetchCounts, counted};
 ghost use Rattle.clr_base.specs.Content.{Takes};
 ghost use Rattle.clr_base.specs.Files.{named, held};
 
@@ -49,17 +49,18 @@ fn find_named<'a>(files: &'a [MemFile], name: &str) -> Option<&'a MemFile>
 impl Shelf for MemShelf {
     ghost files = { λ s. Some (held s.files.items) };
 
+    ghost calls = { λ s. s.calls };
+
     ghost faults = { λ s. s.fault_count };
 
     fn fetch(&mut self, alloc: Global, name: &str) -> Result<Vec<u8>, FetchFault>
         ensures bytes { IfOk result (λ bytes. held self.old.files.items name.now ≡ Some bytes.items) }
         ensures kept { (self.new.files.items ≡ self.old.files.items) × (self.new.failing.items ≡ self.old.failing.items) }
-        ensures cause { FetchHasCause self.old.fault_count self.new.fault_count result }
+        ensures asked { self.new.calls ≡ counted self.old.calls }
+        ensures cause { FetchCounts self.old.fault_count self.new.fault_count result }
         ensures marked { Contains self.old.failing.items self.old.calls → IsErrOf result FetchFault.Failed }
         ensures missing { held self.old.files.items name.now ≡ None → IsErrOf result FetchFault.Failed }
         ensures only { IsErrOf result FetchFault.Failed → Contains self.old.failing.items self.old.calls ⊎ (held self.old.files.items name.now ≡ None) }
-        ensures counts_faults { FetchCounts self.old.fault_count self.new.fault_count result }
-        ensures counts { self.new.calls ≡ counted self.old.calls }
     {
         let call = self.calls;
         self.calls = call.saturating_add(1);
@@ -125,8 +126,7 @@ impl Sink for MemSink {
 
     fn put(&mut self, piece: &[u8]) -> Result<usize, Failed>
         ensures taken { Takes (Some self.old.bytes.items) (Some self.new.bytes.items) result piece.now }
-        ensures cause { HasCause self.old.fault_count self.new.fault_count result }
-        ensures counts_faults { Counts self.old.fault_count self.new.fault_count result }
+        ensures cause { Counts self.old.fault_count self.new.fault_count result }
         ensures marked { Contains self.old.failing.items self.old.calls → IsErr result }
         ensures full { vec_len self.old.bytes ≡ self.old.capacity → IsErr result }
         ensures only { IsErr result → Contains self.old.failing.items self.old.calls ⊎ (vec_len self.old.bytes ≡ self.old.capacity) }

@@ -1,8 +1,8 @@
 //! The traits of what is outside. What an object holds is told by the ones in memory alone.
-//! The count of faults never falls, and a call answers `Failed` only where it rose.
+//! The count of faults rises by one where a call answers `Failed`, and at no other call.
 ghost use Rattle.std.specs.Prelude.{◌≡◌, ℕ, List, IfOk};
 ghost use Rattle.std.specs.declared.option.Option.{Option};
-ghost use Rattle.clr_base.specs.Causes.{HasCause, FetchHasCause};
+ghost use Rattle.clr_base.specs.Causes.{Counts, FetchCounts, counted};
 ghost use Rattle.clr_base.specs.Content.{Takes};
 ghost use Rattle.clr_base.specs.Files.{IsFile};
 
@@ -30,6 +30,9 @@ pub trait Shelf {
     /// What its files hold, where it tells it.
     ghost files: { Self → Option (List ℕ → Option (List ℕ)) };
 
+    /// How often a file was asked for. The count stays at the greatest `u64` once it is there.
+    ghost calls: { Self → ℕ };
+
     /// How often it has failed. The count stays at the greatest `u64` once it is there.
     ghost faults: { Self → ℕ };
 
@@ -37,7 +40,8 @@ pub trait Shelf {
     fn fetch(&mut self, alloc: Global, name: &str) -> Result<Vec<u8>, FetchFault>
         ensures bytes { IfOk result (λ bytes. IsFile (files self.old) name.now bytes.items) }
         ensures kept { files self.new ≡ files self.old }
-        ensures cause { FetchHasCause (faults self.old) (faults self.new) result };
+        ensures asked { calls self.new ≡ counted (calls self.old) }
+        ensures cause { FetchCounts (faults self.old) (faults self.new) result };
 }
 
 /// Where bytes are written.
@@ -51,5 +55,5 @@ pub trait Sink {
     /// Takes some first bytes of a piece, and at least one of a piece that isn't empty.
     fn put(&mut self, piece: &[u8]) -> Result<usize, Failed>
         ensures taken { Takes (content self.old) (content self.new) result piece.now }
-        ensures cause { HasCause (faults self.old) (faults self.new) result };
+        ensures cause { Counts (faults self.old) (faults self.new) result };
 }

@@ -1,6 +1,6 @@
 //! Real files, and any writer: the trusted edge. They don't tell what they hold.
 ghost use Rattle.std.specs.Prelude.{◌≡◌, ◌<◌, ◌≤◌, None, IfOk, length};
-ghost use Rattle.clr_base.specs.Causes.{HasCause, FetchHasCause, Counts, FetchCounts};
+ghost use Rattle.clr_base.specs.Causes.{Counts, FetchCounts, counted};
 ghost use Rattle.clr_base.specs.Files.{IsFile};
 
 use crate::outside::{Failed, FetchFault, Shelf, Sink};
@@ -17,16 +17,18 @@ const GREATEST_FILE: u64 = 268_435_456;
 #[derive(Drop)]
 pub struct FileShelf<'a, R: Files> {
     files: &'a R,
+    calls: u64,
     fault_count: u64,
 }
 
 impl<'a, R: Files> FileShelf<'a, R> {
-    /// A shelf that hasn't failed.
+    /// A shelf that wasn't asked for a file, and hasn't failed.
     pub fn new(files: &'a R) -> FileShelf<'a, R>
-        ensures { result.fault_count ≡ 0 }
+        ensures { (result.calls ≡ 0) × (result.fault_count ≡ 0) }
     {
         FileShelf {
             files,
+            calls: 0,
             fault_count: 0,
         }
     }
@@ -51,13 +53,16 @@ fn read_file<R: Files>(files: &R, alloc: Global, name: &str) -> io::Result<Optio
 impl<R: Files> Shelf for FileShelf<'_, R> {
     ghost files = { λ _. None };
 
+    ghost calls = { λ s. s.calls };
+
     ghost faults = { λ s. s.fault_count };
 
     fn fetch(&mut self, alloc: Global, name: &str) -> Result<Vec<u8>, FetchFault>
         ensures bytes { IfOk result (λ bytes. IsFile None name.now bytes.items) }
-        ensures cause { FetchHasCause self.old.fault_count self.new.fault_count result }
-        ensures counts_faults { FetchCounts self.old.fault_count self.new.fault_count result }
+        ensures asked { self.new.calls ≡ counted self.old.calls }
+        ensures cause { FetchCounts self.old.fault_count self.new.fault_count result }
     {
+        self.calls = self.calls.saturating_add(1);
         match read_file(self.files, alloc, name) {
             Ok(Some(bytes)) => return Ok(bytes),
             Ok(None) => {}
@@ -98,8 +103,7 @@ impl<W: Write> Sink for StreamSink<W> {
 
     fn put(&mut self, piece: &[u8]) -> Result<usize, Failed>
         ensures taken { IfOk result (λ n. (n ≤ length piece.now) × (0 < length piece.now → 0 < n)) }
-        ensures cause { HasCause self.old.fault_count self.new.fault_count result }
-        ensures counts_faults { Counts self.old.fault_count self.new.fault_count result }
+        ensures cause { Counts self.old.fault_count self.new.fault_count result }
     {
         if piece.is_empty() {
             return Ok(0);

@@ -1,16 +1,16 @@
 -- What comes of files that were checked: their text, or the number of the one that is refused.
-use Rattle.std.proofs.Common.{◌≡◌, ℕ, ◌+◌, ◌-◌, ◌≤◌, ◌⊎◌, inl, inr, List, [], ◌∷◌, ◌++◌, length, Option, Some, Result, Ok, Err, refl, sym, ap, ◌∙◌, subst, arith, length-append, IsSome, unwrap_or}
+use Rattle.std.proofs.Common.{◌≡◌, ℕ, ◌+◌, ◌-◌, ◌≤◌, ◌⊎◌, inl, inr, List, [], ◌∷◌, ◌++◌, length, Option, Some, Result, Ok, Err, refl, sym, ap, ◌∙◌, subst, arith, length-append, unwrap_or}
 use Rattle.std.specs.Prelude.{slice_get}
 use Rattle.clr_base.specs.declared.image_fault.ImageFault.{ImageFault}
 use Rattle.clr_base.specs.Checks.{first_fault}
 use Rattle.cli_tables.specs.Metadata.{Metadata}
 use Rattle.image_rows.specs.Image.{metadata_in}
-use Rattle.world_build.specs.Images.{GivesImages, file_checks, images_behind, images_of, or_fault}
-use Rattle.world_build.specs.declared.images.ImagesFault.{ImagesFault}
-use Rattle.world_build.specs.declared.images.ImagesFault.TheVariants.{Image}
+use Rattle.image_files.specs.Images.{GivesImages, file_checks, images_behind, images_of, or_fault}
+use Rattle.image_files.specs.declared.images.ImagesFault.{ImagesFault}
+use Rattle.image_files.specs.declared.images.ImagesFault.TheVariants.{Image}
 use Rattle.clr_core.specs.Command.{named_files}
 use Rattle.clr_core.specs.Ends.{Run, End, Done, Usage, ReadFault, BadImage, WriteFault, Memory, Happened, IsUntouched, StopsChecks, StopsFetch, Judged}
-use Rattle.clr_core.specs.Fetched.{AreFiles}
+use Rattle.clr_core.specs.Fetched.{AreFiles, IsCalm}
 use Rattle.clr_core.specs.Names.{names_of, names_text, text_or_fault}
 
 -- the fault that is answered is the one of the checks
@@ -54,12 +54,13 @@ files_fault names files number fault e = ap (text_or_fault names) e
 
 -- the text of a run that comes to its write, of bytes that were read through a reference
 pub reports : (run : Run) (names bytes read : List (List ℕ)) (text made : List ℕ) → named_files run.words ≡ Some names → AreFiles run.shelf.before names bytes
-    → read ≡ bytes → names_of names read ≡ Ok text → made ≡ text → Judged run (Ok made)
-reports run names bytes read text made named told same answers is = record {
+    → IsCalm run.shelf (length names) → read ≡ bytes → names_of names read ≡ Ok text → made ≡ text → Judged run (Ok made)
+reports run names bytes read text made named told calm same answers is = record {
   files = names;
   named = named;
   bytes = bytes;
   told = told;
+  calm = calm;
   answers = ap (names_of names) (sym same) ∙ answers ∙ ap (λ (t : List ℕ). Ok t) (sym is);
 }
 
@@ -71,23 +72,25 @@ fetch_stopped run names Usage named stops untouched = absurd stops
 fetch_stopped run names (ReadFault file) named stops untouched = (record { files = names; named = named; fails = stops }, untouched)
 fetch_stopped run names (BadImage file fault) named stops untouched = absurd stops
 fetch_stopped run names WriteFault named stops untouched = absurd stops
-fetch_stopped run names Memory named stops untouched = (subst (λ (o : Option (List (List ℕ))). IsSome o) (sym named) refl, untouched)
+fetch_stopped run names Memory named (count, within, calm) untouched =
+    (record { files = names; named = named; count = count; within = within; calm = calm }, untouched)
 
 -- and one whose files have no text
 pub checks_stopped : (run : Run) (names bytes : List (List ℕ)) (end : End) → named_files run.words ≡ Some names → AreFiles run.shelf.before names bytes
-    → StopsChecks names bytes end → IsUntouched run.out → Happened run end
-checks_stopped run names bytes Done named told stops untouched = absurd stops
-checks_stopped run names bytes Usage named told stops untouched = absurd stops
-checks_stopped run names bytes (ReadFault file) named told stops untouched = absurd stops
-checks_stopped run names bytes (BadImage file fault) named told stops untouched = (
+    → IsCalm run.shelf (length names) → StopsChecks names bytes end → IsUntouched run.out → Happened run end
+checks_stopped run names bytes Done named told calm stops untouched = absurd stops
+checks_stopped run names bytes Usage named told calm stops untouched = absurd stops
+checks_stopped run names bytes (ReadFault file) named told calm stops untouched = absurd stops
+checks_stopped run names bytes (BadImage file fault) named told calm stops untouched = (
   record {
     number = stops.0;
-    judged = record { files = names; named = named; bytes = bytes; told = told; answers = stops.1 };
+    judged = record { files = names; named = named; bytes = bytes; told = told; calm = calm; answers = stops.1 };
     word =
         ap (λ (files : Option (List (List ℕ))). unwrap_or (slice_get (unwrap_or files []) (stops.0 - 1)) []) named
         ∙ ap (λ (file : Option (List ℕ)). unwrap_or file []) stops.2;
   },
   untouched,
 )
-checks_stopped run names bytes WriteFault named told stops untouched = absurd stops
-checks_stopped run names bytes Memory named told stops untouched = (subst (λ (o : Option (List (List ℕ))). IsSome o) (sym named) refl, untouched)
+checks_stopped run names bytes WriteFault named told calm stops untouched = absurd stops
+checks_stopped run names bytes Memory named told calm stops untouched =
+    (record { files = names; named = named; count = length names; within = omega arith; calm = calm }, untouched)

@@ -1,17 +1,18 @@
 -- What follows from how a run ended.
-use Rattle.std.proofs.Common.{◌≡◌, ◌≢◌, ◌↔◌, ◌⊎◌, inl, inr, ℕ, ◌+◌, ◌-◌, ◌≤◌, true, false, List, [], Option, None, Some, Result, Ok, Err, refl, sym, ap, ◌∙◌, subst, arith, IsSome, unwrap_or}
+use Rattle.std.proofs.Common.{◌≡◌, ◌≢◌, ◌↔◌, ◌⊎◌, inl, inr, ℕ, ◌+◌, ◌-◌, ◌≤◌, List, [], length, Option, None, Some, Result, Ok, Err, refl, sym, ap, ◌∙◌, subst, arith, unwrap_or}
 use Rattle.std.specs.Prelude.{slice_get}
 use Rattle.std.specs.Option.{option_and_then}
-use Rattle.clr_base.specs.Causes.{Rose}
+use Rattle.std.proofs.lemmas.Option.{slice_get_within}
+use Rattle.clr_base.specs.Causes.{counted, counted_times}
 use Rattle.clr_base.specs.Content.{then_bytes}
 use Rattle.clr_base.specs.declared.image_fault.ImageFault.{ImageFault}
 use Rattle.clr_base.specs.declared.image_fault.FaultKind.TheVariants.{NotPe}
-use Rattle.clr_core.specs.Answers.{Answers}
+use Rattle.clr_core.specs.Answers.{Answers, read_faults_after, write_faults_after}
 use Rattle.clr_core.specs.Command.{named_files}
 use Rattle.clr_core.specs.Fetched.{Files, AreFiles, IsUnread, all_held}
-use Rattle.clr_core.specs.Lines.{unread_line, refused_line}
+use Rattle.clr_core.specs.Lines.{usage_line, unread_line, refused_line, unwritten_line, memory_line}
 use Rattle.clr_core.specs.Names.{names_of}
-use Rattle.clr_core.specs.Ends.{Written, Run, End, Done, Usage, ReadFault, BadImage, WriteFault, Memory, Judged, Unread, Happened, Says, Tells, EndsWith, status_of, the_file, the_files, told_bytes, told_names, line_of}
+use Rattle.clr_core.specs.Ends.{Written, Run, End, Done, Usage, ReadFault, BadImage, WriteFault, Memory, IsUntouched, Judged, Unread, Happened, Says, Tells, EndsWith, status_of, the_file, the_files, told_bytes, told_names, line_of}
 use Rattle.clr_core.specs.declared.status.Status.{Status}
 use Rattle.clr_core.specs.declared.status.Status.TheVariants as status
 
@@ -29,35 +30,78 @@ is_usage run Done s is (text, judged, e) none = cc (judged.named)
 is_usage run Usage s is h none = sym is
 is_usage run (ReadFault file) s is h none = cc (h.0.named)
 is_usage run (BadImage file fault) s is h none = cc (h.0.judged.named)
-is_usage run WriteFault s is (text, judged, prefix, rose) none = cc (judged.named)
-is_usage run Memory s is h none = let lost : false ≡ true = subst (λ (o : Option (List (List ℕ))). IsSome o) none h.0 in cc
+is_usage run WriteFault s is (text, judged, cut) none = cc (judged.named)
+is_usage run Memory s is h none = cc (h.0.named)
 
 usage : (run : Run) (err : Written) (s : Status) → EndsWith run err s → (s ≡ status.Usage) ↔ (named_files run.words ≡ None)
 usage run err s ends = (no_command run ends.end s ends.is ends.happened, is_usage run ends.end s ends.is ends.happened)
 
--- A read fault has its cause.
-read_by : (run : Run) (end : End) (s : Status) → status_of end ≡ s → Happened run end → s ≡ status.ReadFault → Rose run.shelf.faults_before run.shelf.faults_now
-read_by run Done s is h e = cc
-read_by run Usage s is h e = cc
-read_by run (ReadFault file) s is h e = h.0.fails.cause
-read_by run (BadImage file fault) s is h e = cc
-read_by run WriteFault s is h e = cc
-read_by run Memory s is h e = cc
+-- The shelf fails once at ReadFault, and in no other run.
+reads_by : (run : Run) (end : End) → Happened run end → run.shelf.faults_now ≡ read_faults_after (status_of end) run.shelf.faults_before
+reads_by run Done (text, judged, written) = judged.calm.faults
+reads_by run Usage (none, untouched, calm) = calm.faults
+reads_by run (ReadFault file) (unread, untouched) = unread.fails.cause
+reads_by run (BadImage file fault) (refused, untouched) = refused.judged.calm.faults
+reads_by run WriteFault (text, judged, cut) = judged.calm.faults
+reads_by run Memory (short, untouched) = short.calm.faults
 
-read_fault : (run : Run) (err : Written) (s : Status) → EndsWith run err s → s ≡ status.ReadFault → Rose run.shelf.faults_before run.shelf.faults_now
-read_fault run err s ends = read_by run ends.end s ends.is ends.happened
+read_faults : (run : Run) (err : Written) (s : Status) → EndsWith run err s → run.shelf.faults_now ≡ read_faults_after s run.shelf.faults_before
+read_faults run err s ends = subst (λ t. run.shelf.faults_now ≡ read_faults_after t run.shelf.faults_before) ends.is (reads_by run ends.end ends.happened)
 
--- A write fault has its cause.
-write_by : (run : Run) (end : End) (s : Status) → status_of end ≡ s → Happened run end → s ≡ status.WriteFault → Rose run.out.faults_before run.out.faults_now
-write_by run Done s is h e = cc
-write_by run Usage s is h e = cc
-write_by run (ReadFault file) s is h e = cc
-write_by run (BadImage file fault) s is h e = cc
-write_by run WriteFault s is (text, judged, prefix, rose) e = rose
-write_by run Memory s is h e = cc
+-- The sink for the text fails once at WriteFault, and in no other run.
+writes_by : (run : Run) (end : End) → Happened run end → run.out.faults_now ≡ write_faults_after (status_of end) run.out.faults_before
+writes_by run Done (text, judged, written) = written.faults
+writes_by run Usage (none, untouched, calm) = untouched.faults
+writes_by run (ReadFault file) (unread, untouched) = untouched.faults
+writes_by run (BadImage file fault) (refused, untouched) = untouched.faults
+writes_by run WriteFault (text, judged, cut) = cut.faults
+writes_by run Memory (short, untouched) = untouched.faults
 
-write_fault : (run : Run) (err : Written) (s : Status) → EndsWith run err s → s ≡ status.WriteFault → Rose run.out.faults_before run.out.faults_now
-write_fault run err s ends = write_by run ends.end s ends.is ends.happened
+write_faults : (run : Run) (err : Written) (s : Status) → EndsWith run err s → run.out.faults_now ≡ write_faults_after s run.out.faults_before
+write_faults run err s ends = subst (λ t. run.out.faults_now ≡ write_faults_after t run.out.faults_before) ends.is (writes_by run ends.end ends.happened)
+
+-- Each file is asked for once, up to the first whose fetch fails.
+abbrev Asked : Run → Type 0
+Asked run = (calls : ℕ) × (calls ≤ length (the_files run.words)) × (run.shelf.calls_now ≡ counted_times calls run.shelf.calls_before)
+
+files_of : (words files : List (List ℕ)) → named_files words ≡ Some files → files ≡ the_files words
+files_of words files named = sym (ap (λ o. unwrap_or o []) named)
+
+all_asked : (run : Run) (answer : Result (List ℕ) (ℕ × ImageFault)) → Judged run answer
+    → run.shelf.calls_now ≡ counted_times (length (the_files run.words)) run.shelf.calls_before
+all_asked run answer judged =
+    judged.calm.asked ∙ ap (λ files. counted_times (length files) run.shelf.calls_before) (files_of run.words judged.files judged.named)
+
+asked_by : (run : Run) (end : End) → Happened run end → Asked run
+asked_by run Done (text, judged, written) = (length (the_files run.words), omega arith, all_asked run (Ok text) judged)
+asked_by run Usage (none, untouched, calm) = (0, omega arith, calm.asked)
+asked_by run (ReadFault file) (unread, untouched) =
+    let within = slice_get_within unread.files unread.fails.place file unread.fails.is in
+    let count = ap length (files_of run.words unread.files unread.named) in
+    (unread.fails.place + 1, omega (arith, within, count), unread.fails.asked)
+asked_by run (BadImage file fault) (refused, untouched) =
+    (length (the_files run.words), omega arith, all_asked run (Err (refused.number, fault)) refused.judged)
+asked_by run WriteFault (text, judged, cut) = (length (the_files run.words), omega arith, all_asked run (Ok text) judged)
+asked_by run Memory (short, untouched) =
+    let count = ap length (files_of run.words short.files short.named) in (short.count, omega (arith, short.within, count), short.calm.asked)
+
+asked : (run : Run) (err : Written) (s : Status) → EndsWith run err s → Asked run
+asked run err s ends = asked_by run ends.end ends.happened
+
+-- All of them are, before the first check.
+fetched_by : (run : Run) (end : End) (s : Status) → status_of end ≡ s → Happened run end → s ≢ status.ReadFault → s ≢ status.Memory
+    → run.shelf.calls_now ≡ counted_times (length (the_files run.words)) run.shelf.calls_before
+fetched_by run Done s is (text, judged, written) not_read not_short = all_asked run (Ok text) judged
+fetched_by run Usage s is (none, untouched, calm) not_read not_short =
+    calm.asked ∙ ap (λ (o : Option (List (List ℕ))). counted_times (length (unwrap_or o [])) run.shelf.calls_before) (sym none)
+fetched_by run (ReadFault file) s is h not_read not_short = absurd (not_read (sym is))
+fetched_by run (BadImage file fault) s is (refused, untouched) not_read not_short = all_asked run (Err (refused.number, fault)) refused.judged
+fetched_by run WriteFault s is (text, judged, cut) not_read not_short = all_asked run (Ok text) judged
+fetched_by run Memory s is h not_read not_short = absurd (not_short (sym is))
+
+fetched : (run : Run) (err : Written) (s : Status) → EndsWith run err s → s ≢ status.ReadFault → s ≢ status.Memory
+    → run.shelf.calls_now ≡ counted_times (length (the_files run.words)) run.shelf.calls_before
+fetched run err s ends = fetched_by run ends.end s ends.is ends.happened
 
 -- Nothing is written unless the run came to its write.
 out_by : (run : Run) (end : End) (s : Status) → status_of end ≡ s → Happened run end → s ≢ status.Done → s ≢ status.WriteFault → run.out.now ≡ run.out.before
@@ -74,9 +118,6 @@ out_untouched run err s ends = out_by run ends.end s ends.is ends.happened
 -- the line of each status
 any_fault : ImageFault
 any_fault = record { kind = NotPe; place = 0 }
-
-files_of : (words files : List (List ℕ)) → named_files words ≡ Some files → files ≡ the_files words
-files_of words files named = sym (ap (λ o. unwrap_or o []) named)
 
 -- the number of a file that wasn't read
 unread_word : (run : Run) (file : List ℕ) → (unread : Unread run file) → file ≡ the_file run.words (unread.fails.place + 1)
@@ -120,27 +161,48 @@ unread : (run : Run) (err : Written) (s : Status) → EndsWith run err s → s �
 unread run err s ends = unread_by run err ends.end s ends.is ends.happened ends.line
 
 -- At Done nothing is said.
-err_by : (err : Written) (end : End) (s : Status) → status_of end ≡ s → Tells err end → s ≡ status.Done → err.now ≡ err.before
-err_by err Done s is tells e = tells.content
+err_by : (err : Written) (end : End) (s : Status) → status_of end ≡ s → Tells err end → s ≡ status.Done → IsUntouched err
+err_by err Done s is tells e = tells
 err_by err Usage s is tells e = cc
 err_by err (ReadFault file) s is tells e = cc
 err_by err (BadImage file fault) s is tells e = cc
 err_by err WriteFault s is tells e = cc
 err_by err Memory s is tells e = cc
 
-err_untouched : (run : Run) (err : Written) (s : Status) → EndsWith run err s → s ≡ status.Done → err.now ≡ err.before
+err_untouched : (run : Run) (err : Written) (s : Status) → EndsWith run err s → s ≡ status.Done → IsUntouched err
 err_untouched run err s ends = err_by err ends.end s ends.is ends.line
 
-counts_by : (err : Written) (end : End) → Tells err end → err.faults_before ≤ err.faults_now
-counts_by err Done tells = omega (arith, tells.faults)
-counts_by err Usage tells = tells.later
-counts_by err (ReadFault file) tells = tells.later
-counts_by err (BadImage file fault) tells = tells.later
-counts_by err WriteFault tells = tells.later
-counts_by err Memory tells = tells.later
+-- No count of faults falls.
+up : (n : ℕ) → n ≤ counted n
+up n = omega arith
 
-err_counts : (run : Run) (err : Written) (s : Status) → EndsWith run err s → err.faults_before ≤ err.faults_now
-err_counts run err s ends = counts_by err ends.end ends.line
+reads_up : (s : Status) (n : ℕ) → n ≤ read_faults_after s n
+reads_up status.Done n = omega arith
+reads_up status.Usage n = omega arith
+reads_up status.ReadFault n = up n
+reads_up status.WriteFault n = omega arith
+reads_up status.BadImage n = omega arith
+reads_up status.Memory n = omega arith
+
+writes_up : (s : Status) (n : ℕ) → n ≤ write_faults_after s n
+writes_up status.Done n = omega arith
+writes_up status.Usage n = omega arith
+writes_up status.ReadFault n = omega arith
+writes_up status.WriteFault n = up n
+writes_up status.BadImage n = omega arith
+writes_up status.Memory n = omega arith
+
+says_up : (err : Written) (line : List ℕ) → Says err line → err.faults_before ≤ err.faults_now
+says_up err line (inl written) = omega (arith, written.faults)
+says_up err line (inr cut) = let more = up err.faults_before in omega (arith, cut.faults, more)
+
+tells_up : (err : Written) (end : End) → Tells err end → err.faults_before ≤ err.faults_now
+tells_up err Done tells = omega (arith, tells.faults)
+tells_up err Usage tells = says_up err usage_line tells
+tells_up err (ReadFault file) tells = says_up err (unread_line file) tells
+tells_up err (BadImage file fault) tells = says_up err (refused_line file fault) tells
+tells_up err WriteFault tells = says_up err unwritten_line tells
+tells_up err Memory tells = says_up err memory_line tells
 
 -- The bytes that were judged are the ones that the shelf tells.
 told : (files : Files) (words names judged bytes : List (List ℕ)) → named_files words ≡ Some names → AreFiles files names judged
@@ -179,24 +241,24 @@ has_command (Some files) words bytes e none = let lost : option_and_then (all_he
 
 refused_by : (run : Run) (end : End) (s : Status) (bytes : List (List ℕ)) (number : ℕ) (fault : ImageFault) → status_of end ≡ s → Happened run end
     → told_bytes run.shelf.before run.words ≡ Some bytes → told_names run.words bytes ≡ Err (number, fault)
-    → ¬ (Rose run.shelf.faults_before run.shelf.faults_now) → (s ≡ status.BadImage) ⊎ (s ≡ status.Memory)
+    → s ≢ status.ReadFault → (s ≡ status.BadImage) ⊎ (s ≡ status.Memory)
 refused_by run Done s bytes number fault is (text, judged, written) e bad calm = let good = told_answer run bytes (Ok text) judged e in cc
 refused_by run Usage s bytes number fault is h e bad calm = absurd (has_command run.shelf.before run.words bytes e h.0)
-refused_by run (ReadFault file) s bytes number fault is h e bad calm = absurd (calm h.0.fails.cause)
+refused_by run (ReadFault file) s bytes number fault is h e bad calm = absurd (calm (sym is))
 refused_by run (BadImage file other) s bytes number fault is h e bad calm = inl (sym is)
-refused_by run WriteFault s bytes number fault is (text, judged, prefix, rose) e bad calm = let good = told_answer run bytes (Ok text) judged e in cc
+refused_by run WriteFault s bytes number fault is (text, judged, cut) e bad calm = let good = told_answer run bytes (Ok text) judged e in cc
 refused_by run Memory s bytes number fault is h e bad calm = inr (sym is)
 
 refused : (run : Run) (err : Written) (s : Status) → EndsWith run err s → (bytes : List (List ℕ)) (number : ℕ) (fault : ImageFault)
     → told_bytes run.shelf.before run.words ≡ Some bytes → told_names run.words bytes ≡ Err (number, fault)
-    → ¬ (Rose run.shelf.faults_before run.shelf.faults_now) → (s ≡ status.BadImage) ⊎ (s ≡ status.Memory)
+    → s ≢ status.ReadFault → (s ≡ status.BadImage) ⊎ (s ≡ status.Memory)
 refused run err s ends bytes number fault = refused_by run ends.end s bytes number fault ends.is ends.happened
 
 -- Files that pass have their text.
 done_by : (run : Run) (end : End) (s : Status) (bytes : List (List ℕ)) → status_of end ≡ s → Happened run end
     → told_bytes run.shelf.before run.words ≡ Some bytes → s ≡ status.Done
     → (text : List ℕ) × (told_names run.words bytes ≡ Ok text) × (run.out.now ≡ then_bytes run.out.before text)
-done_by run Done s bytes is (text, judged, written) e d = (text, told_answer run bytes (Ok text) judged e, written)
+done_by run Done s bytes is (text, judged, written) e d = (text, told_answer run bytes (Ok text) judged e, written.content)
 done_by run Usage s bytes is h e d = cc
 done_by run (ReadFault file) s bytes is h e d = cc
 done_by run (BadImage file fault) s bytes is h e d = cc
@@ -209,18 +271,18 @@ done run err s ends bytes = done_by run ends.end s bytes ends.is ends.happened
 
 complete_by : (run : Run) (end : End) (s : Status) (bytes : List (List ℕ)) (text : List ℕ) → status_of end ≡ s → Happened run end
     → told_bytes run.shelf.before run.words ≡ Some bytes → told_names run.words bytes ≡ Ok text
-    → ¬ (Rose run.shelf.faults_before run.shelf.faults_now) → ¬ (Rose run.out.faults_before run.out.faults_now)
+    → s ≢ status.ReadFault → s ≢ status.WriteFault
     → (s ≡ status.Done) ⊎ (s ≡ status.Memory)
 complete_by run Done s bytes text is h e good calm quiet = inl (sym is)
 complete_by run Usage s bytes text is h e good calm quiet = absurd (has_command run.shelf.before run.words bytes e h.0)
-complete_by run (ReadFault file) s bytes text is h e good calm quiet = absurd (calm h.0.fails.cause)
+complete_by run (ReadFault file) s bytes text is h e good calm quiet = absurd (calm (sym is))
 complete_by run (BadImage file fault) s bytes text is h e good calm quiet = let bad = told_answer run bytes (Err (h.0.number, fault)) h.0.judged e in cc
-complete_by run WriteFault s bytes text is (t, judged, prefix, rose) e good calm quiet = absurd (quiet rose)
+complete_by run WriteFault s bytes text is (t, judged, cut) e good calm quiet = absurd (quiet (sym is))
 complete_by run Memory s bytes text is h e good calm quiet = inr (sym is)
 
 complete : (run : Run) (err : Written) (s : Status) → EndsWith run err s → (bytes : List (List ℕ)) (text : List ℕ)
     → told_bytes run.shelf.before run.words ≡ Some bytes → told_names run.words bytes ≡ Ok text
-    → ¬ (Rose run.shelf.faults_before run.shelf.faults_now) → ¬ (Rose run.out.faults_before run.out.faults_now)
+    → s ≢ status.ReadFault → s ≢ status.WriteFault
     → (s ≡ status.Done) ⊎ (s ≡ status.Memory)
 complete run err s ends bytes text = complete_by run ends.end s bytes text ends.is ends.happened
 
@@ -229,16 +291,22 @@ pub answers : (run : Run) (err : Written) (s : Status) → EndsWith run err s �
 answers run err s ends = record {
   ends = ends;
   usage = usage run err s ends;
-  read_fault = read_fault run err s ends;
+  read_faults = read_faults run err s ends;
+  write_faults = write_faults run err s ends;
+  asked = asked run err s ends;
+  fetched = fetched run err s ends;
   unread = unread run err s ends;
-  write_fault = write_fault run err s ends;
   bad_image = bad_image run err s ends;
   refused = refused run err s ends;
   done = done run err s ends;
   complete = complete run err s ends;
   out_untouched = out_untouched run err s ends;
   err_untouched = err_untouched run err s ends;
-  shelf_kept = ends.keeps.files;
-  counts = (ends.keeps.reads, ends.keeps.writes, err_counts run err s ends);
+  shelf_kept = ends.kept;
+  counts = (
+    (let more = reads_up s run.shelf.faults_before in let now = read_faults run err s ends in omega (arith, more, now)),
+    (let more = writes_up s run.out.faults_before in let now = write_faults run err s ends in omega (arith, more, now)),
+    tells_up err ends.end ends.line,
+  );
   line = line run err s ends;
 }

@@ -1,12 +1,16 @@
 -- One more file that is fetched.
-use Rattle.std.proofs.Common.{◌≡◌, ℕ, ◌+◌, ◌<◌, List, [], ◌∷◌, ◌++◌, map, take, length, get_or, Option, None, Some, Vec, String, Global, refl, sym, ap, ◌∙◌, subst, arith, length-append}
+use Rattle.std.proofs.Common.{◌≡◌, ℕ, suc, ◌+◌, ◌<◌, List, [], ◌∷◌, ◌++◌, map, take, length, get_or, Option, None, Some, Err, Vec, String, Global, refl, sym, ap, ◌∙◌, subst, arith, length-append}
 use Rattle.std.specs.Prelude.{string_bytes}
 use Rattle.std.specs.Option.{option_and_then, option_map}
 use Rattle.std.proofs.lemmas.List.{length-map, map-append, take-map, take_more}
+use Rattle.clr_base.specs.Causes.{FetchCounts, counted, counted_times}
+use Rattle.clr_base.specs.declared.outside.FetchFault.{FetchFault}
+use Rattle.clr_base.specs.declared.outside.FetchFault.TheVariants as fetch
 use Rattle.clr_base.specs.Files.{IsFile}
 use Rattle.clr_core.specs.Command.{texts_of}
-use Rattle.clr_core.specs.Fetched.{Files, AreFiles, all_held}
-use Rattle.world_build.specs.Images.{bytes_of_each}
+use Rattle.clr_core.specs.Fetched.{Files, Shelved, AreFiles, IsCalm, all_held}
+use Rattle.image_files.specs.Images.{bytes_of_each}
+use Rattle.clr_core.proofs.FileWords.{as_many}
 
 -- the first file and the others are there where all are
 split : (o : Option (List ℕ)) (rest : Option (List (List ℕ))) (bytes : List (List ℕ))
@@ -75,3 +79,15 @@ fetched_more shelf names k name old new file within is before fetched more =
     subst (λ l. AreFiles shelf l (bytes_of_each new)) (sym (text_more names k name within is))
     (subst (λ l. AreFiles shelf (take k (texts_of names) ++ string_bytes name ∷ []) l) (sym bytes)
     (files_more shelf (take k (texts_of names)) (bytes_of_each old) (string_bytes name) file.items before fetched))
+
+-- what was asked for, by the words of the names
+pub calm_words : (shelf : Shelved) (names : List (String Global)) → IsCalm shelf (length names) → IsCalm shelf (length (texts_of names))
+calm_words shelf names calm = subst (IsCalm shelf) (sym (as_many names)) calm
+
+-- one call more
+pub once_more : (k calls before now : ℕ) → now ≡ counted calls → calls ≡ counted_times k before → now ≡ counted_times (k + 1) before
+once_more k calls before now is all = is ∙ ap counted all ∙ ap (λ (n : ℕ). counted_times n before) (let next : suc k ≡ k + 1 = omega arith in next)
+
+-- want of memory is no fault
+pub no_fault : (before now : ℕ) (fault : FetchFault) → fault ≡ fetch.Memory → FetchCounts {T = Vec ℕ Global} before now (Err fault) → now ≡ before
+no_fault before now fault is counts = subst (λ f. FetchCounts {T = Vec ℕ Global} before now (Err f)) is counts

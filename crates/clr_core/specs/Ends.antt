@@ -1,11 +1,11 @@
 -- How a run ends, and what it has then done outside.
-use Rattle.std.specs.Prelude.{◌≡◌, ◌⊎◌, ℕ, ◌-◌, ◌≤◌, List, [], Option, None, Some, Result, Ok, Err, IsSome, slice_get, unwrap_or}
+use Rattle.std.specs.Prelude.{◌≡◌, ◌⊎◌, ℕ, ◌-◌, ◌≤◌, List, [], length, Option, None, Some, Result, Ok, Err, slice_get, unwrap_or}
 use Rattle.std.specs.Option.{option_and_then}
-use Rattle.clr_base.specs.Causes.{Rose}
+use Rattle.clr_base.specs.Causes.{counted}
 use Rattle.clr_base.specs.Content.{then_bytes, AppendsPrefix}
 use Rattle.clr_base.specs.declared.image_fault.ImageFault.{ImageFault}
 use Rattle.clr_core.specs.Command.{named_files}
-use Rattle.clr_core.specs.Fetched.{Files, Shelved, AreFiles, IsUnread, all_held}
+use Rattle.clr_core.specs.Fetched.{Files, Shelved, AreFiles, IsCalm, IsUnread, all_held}
 use Rattle.clr_core.specs.Lines.{usage_line, unread_line, refused_line, unwritten_line, memory_line}
 use Rattle.clr_core.specs.Names.{names_of}
 use Rattle.clr_core.specs.declared.status.Stop.{Stop}
@@ -39,13 +39,14 @@ pub data End : Type 0 where
   WriteFault : End
   Memory : End
 
--- All files of the command were fetched, and this came of their bytes: the text that is written, or the number of the first
--- that is refused, from 1, with its first fault.
+-- All files of the command were fetched, each once, and this came of their bytes: the text that is written, or the number of
+-- the first that is refused, from 1, with its first fault.
 pub record Judged (run : Run) (answer : Result (List ℕ) (ℕ × ImageFault)) : Type 0 where
   pub files : List (List ℕ)
   pub named : named_files run.words ≡ Some files
   pub bytes : List (List ℕ)
   pub told : AreFiles run.shelf.before files bytes
+  pub calm : IsCalm run.shelf (length files)
   pub answers : names_of files bytes ≡ answer
 
 -- the words of the command's files
@@ -56,15 +57,33 @@ the_files words = unwrap_or (named_files words) []
 abbrev pub the_file : List (List ℕ) → ℕ → List ℕ
 the_file words number = unwrap_or (slice_get (the_files words) (number - 1)) []
 
+-- Memory was wanting behind so many of the command's files, each of them asked for once.
+pub record CutShort (run : Run) : Type 0 where
+  pub files : List (List ℕ)
+  pub named : named_files run.words ≡ Some files
+  pub count : ℕ
+  pub within : count ≤ length files
+  pub calm : IsCalm run.shelf count
+
 -- nothing was written, and nothing failed
 pub record IsUntouched (sink : Written) : Type 0 where
   pub content : sink.now ≡ sink.before
   pub faults : sink.faults_now ≡ sink.faults_before
 
+-- the whole text was appended, and nothing failed
+pub record IsWritten (sink : Written) (text : List ℕ) : Type 0 where
+  pub content : sink.now ≡ then_bytes sink.before text
+  pub faults : sink.faults_now ≡ sink.faults_before
+
+-- a prefix of the text was appended, and the sink failed once
+pub record IsCut (sink : Written) (text : List ℕ) : Type 0 where
+  pub content : AppendsPrefix sink.before sink.now text
+  pub faults : sink.faults_now ≡ counted sink.faults_before
+
 -- why not all files were fetched
 abbrev pub StopsFetch : Shelved → List (List ℕ) → End → Type 0
 StopsFetch shelf names (ReadFault file) = IsUnread shelf names file
-StopsFetch shelf names Memory = Unit {0}
+StopsFetch shelf names Memory = (count : ℕ) × (count ≤ length names) × IsCalm shelf count
 StopsFetch shelf names end = ⊥
 
 -- why files that were fetched have no text: one is refused, and this is its word
@@ -86,18 +105,12 @@ pub record Refused (run : Run) (file : List ℕ) (fault : ImageFault) : Type 0 w
   pub word : the_file run.words number ≡ file
 
 abbrev pub Happened : Run → End → Type 0
-Happened run Done = (text : List ℕ) × Judged run (Ok text) × (run.out.now ≡ then_bytes run.out.before text)
-Happened run Usage = (named_files run.words ≡ None) × IsUntouched run.out × (run.shelf.faults_now ≡ run.shelf.faults_before)
+Happened run Done = (text : List ℕ) × Judged run (Ok text) × IsWritten run.out text
+Happened run Usage = (named_files run.words ≡ None) × IsUntouched run.out × IsCalm run.shelf 0
 Happened run (ReadFault file) = Unread run file × IsUntouched run.out
 Happened run (BadImage file fault) = Refused run file fault × IsUntouched run.out
-Happened run WriteFault = (text : List ℕ) × Judged run (Ok text) × AppendsPrefix run.out.before run.out.now text × Rose run.out.faults_before run.out.faults_now
-Happened run Memory = IsSome (named_files run.words) × IsUntouched run.out
-
--- The files stay as they were, and no count of faults falls.
-pub record Keeps (shelf : Shelved) (sink : Written) : Type 0 where
-  pub files : shelf.now ≡ shelf.before
-  pub reads : shelf.faults_before ≤ shelf.faults_now
-  pub writes : sink.faults_before ≤ sink.faults_now
+Happened run WriteFault = (text : List ℕ) × Judged run (Ok text) × IsCut run.out text
+Happened run Memory = CutShort run × IsUntouched run.out
 
 -- what the code's answers stand for
 abbrev pub end_of_stop : Stop → End
@@ -119,10 +132,9 @@ status_of (BadImage file fault) = status.BadImage
 status_of WriteFault = status.WriteFault
 status_of Memory = status.Memory
 
--- The line is appended to what the other sink holds, or a prefix of it where that sink failed. No count falls.
-pub record Says (err : Written) (line : List ℕ) : Type 0 where
-  pub appends : (err.now ≡ then_bytes err.before line) ⊎ (AppendsPrefix err.before err.now line × Rose err.faults_before err.faults_now)
-  pub later : err.faults_before ≤ err.faults_now
+-- The line is appended to what the other sink holds, or a prefix of it where that sink failed.
+abbrev pub Says : Written → List ℕ → Type 0
+Says err line = IsWritten err line ⊎ IsCut err line
 
 abbrev pub Tells : Written → End → Type 0
 Tells err Done = IsUntouched err
@@ -141,13 +153,13 @@ status_number status.WriteFault = 3
 status_number status.BadImage = 4
 status_number status.Memory = 6
 
--- A run ends in one of these ways, with its status and its line.
+-- A run ends in one of these ways, with its status and its line. The files stay as they were.
 pub record EndsWith (run : Run) (err : Written) (reached : Status) : Type 0 where
   pub end : End
   pub is : status_of end ≡ reached
   pub happened : Happened run end
   pub line : Tells err end
-  pub keeps : Keeps run.shelf run.out
+  pub kept : run.shelf.now ≡ run.shelf.before
 
 -- the bytes of the command's files, where the shelf tells them
 abbrev pub told_bytes : Files → List (List ℕ) → Option (List (List ℕ))

@@ -4,7 +4,7 @@ use Rattle.std.specs.List.{flat_map, zip}
 use Rattle.clr_base.specs.declared.image_fault.ImageFault.{ImageFault}
 use Rattle.cli_tables.specs.Metadata.{Metadata}
 use Rattle.image_rows.specs.Cells.{rows_of}
-use Rattle.world_build.specs.Images.{images_of}
+use Rattle.image_files.specs.Images.{images_of}
 use Rattle.image_rows.specs.TypeNames.{full_name}
 
 -- a full name on a line of its own

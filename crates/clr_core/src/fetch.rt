@@ -1,25 +1,25 @@
 //! The files of a command.
-ghost use Rattle.std.specs.Prelude.{◌≡◌, ◌≤◌, IfErr, IfOk};
+ghost use Rattle.std.specs.Prelude.{◌≡◌, length, IfErr, IfOk};
 ghost use Rattle.clr_core.specs.Command.{texts_of};
 ghost use Rattle.clr_core.specs.Ends.{StopsFetch, end_of_stop};
-ghost use Rattle.clr_core.specs.Fetched.{AreFiles, shelved};
-ghost use Rattle.world_build.specs.Images.{bytes_of_each};
+ghost use Rattle.clr_core.specs.Fetched.{AreFiles, IsCalm, shelved};
+ghost use Rattle.image_files.specs.Images.{bytes_of_each};
 
 use crate::status::Stop;
 use clr_base::{FetchFault, Shelf};
 use sqlite_items::Items;
 use std::alloc::Global;
 
-/// The bytes of the files of these names, fetched in their order up to the first that fails.
+/// The bytes of the files of these names, each fetched once, in their order up to the first that fails.
 pub fn fetch_all<'a, F: Shelf>(
     alloc: Global,
     names: &'a [String],
     shelf: &mut F,
 ) -> Result<Items<Vec<u8>>, Stop<'a>>
     ensures bytes { IfOk result (λ files. AreFiles (F.files shelf.old) (texts_of names.now) (bytes_of_each files)) }
-    ensures stopped { IfErr result (λ stop. StopsFetch (shelved F.files F.faults shelf.old shelf.new) (texts_of names.now) (end_of_stop stop)) }
+    ensures once { IfOk result (λ _. IsCalm (shelved F.files F.calls F.faults shelf.old shelf.new) (length names.now)) }
+    ensures stopped { IfErr result (λ stop. StopsFetch (shelved F.files F.calls F.faults shelf.old shelf.new) (texts_of names.now) (end_of_stop stop)) }
     ensures kept { F.files shelf.new ≡ F.files shelf.old }
-    ensures later { F.faults shelf.old ≤ F.faults shelf.new }
 {
     let mut files = Items::new(alloc);
     for k in 0..names.len() {

@@ -2,10 +2,10 @@
 ghost use Rattle.std.specs.Prelude.{◌≡◌, ◌≤◌, length, IfErr, IfOk};
 ghost use Rattle.clr_core.specs.Answers.{Answers};
 ghost use Rattle.clr_core.specs.Command.{texts_of};
-ghost use Rattle.clr_core.specs.Ends.{Happened, Keeps, EndsWith, StopsChecks, end_of, end_of_stop, written};
+ghost use Rattle.clr_core.specs.Ends.{Happened, EndsWith, StopsChecks, end_of, end_of_stop, written};
 ghost use Rattle.clr_core.specs.Fetched.{shelved};
 ghost use Rattle.clr_core.specs.Names.{names_of};
-ghost use Rattle.world_build.specs.Images.{bytes_of_each};
+ghost use Rattle.image_files.specs.Images.{bytes_of_each};
 
 use crate::command;
 use crate::fetch::fetch_all;
@@ -13,9 +13,9 @@ use crate::lines::say_stop;
 use crate::names::names_text;
 use crate::status::{Outcome, Status, Stop};
 use clr_base::{Bytes, Gate, Shelf, Sink, put_all};
+use image_files::{ImagesFault, read_images};
 use std::alloc::Global;
 use std::thread::Threads;
-use world_build::{ImagesFault, read_images};
 
 /// What is written of the files that were fetched. They are all checked first, in order.
 fn text_of<'a>(alloc: Global, names: &'a [String], files: &[Vec<u8>]) -> Result<Bytes, Stop<'a>>
@@ -48,13 +48,11 @@ fn run<'a, F: Shelf, O: Sink>(
     ensures happened { Happened
         (record {
           words = texts_of words.now;
-          shelf = shelved F.files F.faults shelf.old shelf.new;
+          shelf = shelved F.files F.calls F.faults shelf.old shelf.new;
           out = written O.content O.faults out.old out.new;
         })
         (end_of result) }
-    ensures keeps { Keeps
-        (shelved F.files F.faults shelf.old shelf.new)
-        (written O.content O.faults out.old out.new) }
+    ensures kept { F.files shelf.new ≡ F.files shelf.old }
 {
     let Some(names) = command::named_files(words) else {
         return Err(Stop::Usage);
@@ -78,7 +76,7 @@ fn answer<F: Shelf, O: Sink, E: Sink>(
     ensures { EndsWith
         (record {
           words = texts_of words.now;
-          shelf = shelved F.files F.faults shelf.old shelf.new;
+          shelf = shelved F.files F.calls F.faults shelf.old shelf.new;
           out = written O.content O.faults out.old out.new;
         })
         (written E.content E.faults err.old err.new)
@@ -106,7 +104,7 @@ pub fn clr_quiet<F: Shelf, O: Sink, E: Sink>(
     ensures { Answers
         (record {
           words = texts_of words.now;
-          shelf = shelved F.files F.faults shelf.old shelf.new;
+          shelf = shelved F.files F.calls F.faults shelf.old shelf.new;
           out = written O.content O.faults out.old out.new;
         })
         (written E.content E.faults err.old err.new)
@@ -129,7 +127,7 @@ pub fn clr<R: Threads + Sync, F: Shelf, O: Sink, E: Sink, G: Gate + Sync>(
     ensures { Answers
         (record {
           words = texts_of words.now;
-          shelf = shelved F.files F.faults shelf.old shelf.new;
+          shelf = shelved F.files F.calls F.faults shelf.old shelf.new;
           out = written O.content O.faults out.old out.new;
         })
         (written E.content E.faults err.old err.new)

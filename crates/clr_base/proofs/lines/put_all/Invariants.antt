@@ -5,7 +5,7 @@ use Rattle.clr_base.proofs.lines.put_all.Given as goal
 abbrev pub invariant-loop-at : goal.invariant-loop-at
 invariant-loop-at g l = record {
   within : l.at ≤ length l.text;
-  later : g.S.Sink.faults l.initial.sink ≤ g.S.Sink.faults l.sink;
+  calm : g.S.Sink.faults l.sink ≡ g.S.Sink.faults l.initial.sink;
   written : g.S.Sink.content l.sink ≡ then_bytes (g.S.Sink.content l.initial.sink) (take l.at l.text);
 }
 

@@ -1,10 +1,10 @@
 use Rattle.std.proofs.Common.{sym, ap, refl, subst, arith}
 use Rattle.std.proofs.lemmas.Result.{err_from_is_err_and}
-use Rattle.world_build.specs.Images.{bytes_of_each}
+use Rattle.image_files.specs.Images.{bytes_of_each}
 use Rattle.clr_core.specs.Command.{texts_of}
 use Rattle.clr_core.specs.Fetched.{AreFiles}
 use Rattle.clr_core.proofs.Checking.{fetch_stopped, checks_stopped, reports}
-use Rattle.clr_core.proofs.Fetching.{files_count}
+use Rattle.clr_core.proofs.Fetching.{files_count, calm_words}
 use Rattle.clr_core.proofs.FileWords.{as_many, few_files}
 use Rattle.clr_core.proofs.top.run.Goals as goal
 
@@ -25,6 +25,7 @@ returns-in_err-text-clause-happened g c =
     (checks_stopped _ (texts_of c.in-Some.names.now) (bytes_of_each c.as_slice.result.now) _ (sym c.in-Some.ensures)
     (subst (λ bytes. AreFiles (g.F.Shelf.files c.args.shelf.now) (texts_of c.in-Some.names.now) bytes) (ap bytes_of_each (sym c.as_slice.ensures))
     c.in_ok-files.ensures.bytes)
+    (calm_words _ c.in-Some.names.now c.in_ok-files.ensures.once)
     c.in_err-text.ensures.stopped (record { content = refl; faults = refl }))
 
 pub returns-in_err-files-clause-happened : goal.returns-in_err-files-clause-happened
@@ -37,15 +38,14 @@ pub returns-in-Ok-clause-happened : goal.returns-in-Ok-clause-happened
 returns-in-Ok-clause-happened g c = (
   c.as_slice-2.result.now,
   reports _ (texts_of c.in-Some.names.now) (bytes_of_each c.in_ok-files.files) (bytes_of_each c.as_slice.result.now) c.in_ok-text.text c.as_slice-2.result.now
-      (sym c.in-Some.ensures) c.in_ok-files.ensures.bytes (ap bytes_of_each c.as_slice.ensures) c.in_ok-text.ensures.text c.as_slice-2.ensures,
-  c.in-Ok.ensures.text,
+      (sym c.in-Some.ensures) c.in_ok-files.ensures.bytes (calm_words _ c.in-Some.names.now c.in_ok-files.ensures.once) (ap bytes_of_each c.as_slice.ensures) c.in_ok-text.ensures.text c.as_slice-2.ensures,
+  record { content = c.in-Ok.ensures.text; faults = c.in-Ok.ensures.cause },
 )
 
 pub returns-clause-happened : goal.returns-clause-happened
 returns-clause-happened g c = (
   c.as_slice-2.result.now,
   reports _ (texts_of c.in-Some.names.now) (bytes_of_each c.in_ok-files.files) (bytes_of_each c.as_slice.result.now) c.in_ok-text.text c.as_slice-2.result.now
-      (sym c.in-Some.ensures) c.in_ok-files.ensures.bytes (ap bytes_of_each c.as_slice.ensures) c.in_ok-text.ensures.text c.as_slice-2.ensures,
-  c.in-Err.ensures.text,
-  c.in-Err.ensures.cause.failed,
+      (sym c.in-Some.ensures) c.in_ok-files.ensures.bytes (calm_words _ c.in-Some.names.now c.in_ok-files.ensures.once) (ap bytes_of_each c.as_slice.ensures) c.in_ok-text.ensures.text c.as_slice-2.ensures,
+  record { content = c.in-Err.ensures.text; faults = c.in-Err.ensures.cause },
 )

@@ -1,6 +1,6 @@
 use Rattle.std.proofs.Common.{◌<◌, ◌∙◌, ℕ, ◌-◌, List, [], Some, get_or, sym, ap, arith, length}
 use Rattle.std.proofs.lemmas.List.{length-map}
-use Rattle.world_build.specs.Images.{bytes_of_each}
+use Rattle.image_files.specs.Images.{bytes_of_each}
 use Rattle.clr_core.specs.Command.{texts_of}
 use Rattle.clr_core.specs.Names.{names_text}
 use Rattle.clr_core.proofs.Checking.{given_image, number_within, files_fault, files_text}
