@@ -9,6 +9,7 @@ use Rattle.core_types.specs.declared.core_table.DefKind.TheVariants.{Class}
 use Rattle.core_types.specs.declared.core_table.MemberName.{MemberName}
 use Rattle.core_types.specs.declared.core_table.MemberName.TheVariants as member
 use Rattle.core_types.specs.declared.core_table.TheConstants.{CORE_DEFS, CORE_METHODS, CORE_NAMES}
+use Rattle.clr_base.specs.Core as base
 
 -- the number of a type, which is its definition's
 abbrev pub number_of : CoreType → ℕ
@@ -51,10 +52,10 @@ number_of known.Console = 35
 
 -- how many definitions the core has, how many methods, and how many names: one for each definition, and 16 of methods
 abbrev pub core_defs : ℕ
-core_defs = 36
+core_defs = base.core_defs
 
 abbrev pub core_methods : ℕ
-core_methods = 98
+core_methods = base.core_methods
 
 abbrev pub core_names : ℕ
 core_names = 52

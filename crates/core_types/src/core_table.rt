@@ -1,6 +1,7 @@
 //! The core library as data: its definitions and methods, in order. It has no fields.
 
 use crate::core_type::CoreType;
+use clr_base::{CORE_DEF_COUNT, CORE_METHOD_COUNT};
 
 /// What a definition is, which tells its flags (ECMA-335 II.23.1.15).
 #[derive(Clone, Copy)]
@@ -97,10 +98,10 @@ pub struct CoreMethod {
 }
 
 /// How many definitions there are.
-pub const DEF_COUNT: usize = 36;
+pub const DEF_COUNT: usize = CORE_DEF_COUNT as usize;
 
 /// How many methods they have.
-pub const METHOD_COUNT: usize = 98;
+pub const METHOD_COUNT: usize = CORE_METHOD_COUNT as usize;
 
 /// How many names there are.
 pub const NAME_COUNT: usize = 52;

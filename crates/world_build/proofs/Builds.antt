@@ -15,13 +15,14 @@ use Rattle.type_members.specs.declared.member_table.MemberTable.{MemberTable}
 use Rattle.world_build.specs.Bodies.{file_bodies}
 use Rattle.core_types.specs.CoreLibrary as core
 use Rattle.core_types.specs.CoreTable.{def_id}
-use Rattle.world_build.specs.Counts.{are_few, totals_of}
+use Rattle.image_files.specs.Counts.{are_few, totals_of}
 use Rattle.type_members.specs.MemberIndexes as index
 use Rattle.type_members.specs.MemberTable.{member_table, of_each}
 use Rattle.world_build.specs.Signatures.{file_keys, well_known}
-use Rattle.world_build.specs.World.{file_defs, no_body, of_bytes, reader, tables_in, world, world_file}
+use Rattle.world_build.specs.World.{file_defs, no_body, of_bytes, reader, world, world_file}
+use Rattle.image_files.specs.Images.{tables_in}
 use Rattle.type_names.specs.WorldNames.{names}
-use Rattle.world_build.proofs.FewEnough.{are_below}
+use Rattle.image_files.proofs.FewEnough.{are_below}
 use Rattle.world_build.proofs.FewMembers.{few_members}
 
 -- ---- few enough

@@ -20,7 +20,8 @@ use Rattle.image_rows.specs.Cells.{rows_of, at, coded, owner_of, rows_with}
 use Rattle.type_members.specs.Definitions.{parent_at, parent_of, interfaces_of, def_of}
 use Rattle.type_members.specs.Members.{type_owner}
 use Rattle.world_build.specs.References.{Reader, owner_type, ref_owner, spec_key}
-use Rattle.world_build.specs.Signatures.{types_in, row_types, owners_in, member_keys, locals_in, listed, local_keys, file_keys}
+use Rattle.world_build.specs.Signatures.{types_in, row_types, owners_in, member_keys, local_keys, file_keys}
+use Rattle.image_files.specs.Signatures.{locals_in, listed}
 use Rattle.type_members.specs.Trees.{tree, type_at_row, coded_type, empty_name}
 use Rattle.clr_base.proofs.ListFacts.{all_of_map, all_of_both, all_at_or, both}
 use Rattle.type_members.proofs.MembersFit.{NamesFit, name_fits, formals_of_fit}

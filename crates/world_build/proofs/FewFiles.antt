@@ -2,10 +2,10 @@
 use Rattle.std.proofs.Common.{◌≡◌, ℕ, All, List, true, Some, sym, ap, ◌∙◌, subst, slice_get}
 use Rattle.std.proofs.lemmas.Option.{slice_get_within, get_or_from_slice_get}
 use Rattle.cli_tables.specs.Metadata.{Metadata}
-use Rattle.world_build.specs.Counts.{totals_of, are_few}
+use Rattle.image_files.specs.Counts.{totals_of, are_few}
 use Rattle.image_rows.specs.Rows.{ArePassed}
-use Rattle.world_build.specs.World.{tables_in}
-use Rattle.world_build.proofs.FewEnough.{are_below}
+use Rattle.image_files.specs.Images.{tables_in}
+use Rattle.image_files.proofs.FewEnough.{are_below}
 use Rattle.world_build.proofs.WorldFits.{AreFew}
 
 each_passed : (images : List Metadata) (k : ℕ) (m : Metadata) → All ArePassed images → slice_get images k ≡ Some m → ArePassed m

@@ -9,7 +9,7 @@ use Rattle.type_members.specs.declared.member_index.MemberIndex.{MemberIndex}
 use Rattle.type_members.specs.declared.member_table.MemberTable.{MemberTable}
 use Rattle.type_names.specs.declared.type_rows.TypeRows.{TypeRows}
 use Rattle.image_rows.specs.Cells.{rows, rows_of}
-use Rattle.world_build.specs.Counts.{are_few, totals_of}
+use Rattle.image_files.specs.Counts.{are_few, totals_of}
 use Rattle.core_types.specs.CoreTable.{core_methods}
 use Rattle.type_members.specs.Definitions.{def_of}
 use Rattle.image_rows.specs.Image.{metadata_in}
@@ -18,11 +18,13 @@ use Rattle.type_members.specs.MemberTable.{member_table, of_each, run_at}
 use Rattle.world_build.specs.Readers.{CanRead}
 use Rattle.world_build.specs.References.{Reader, impls_of}
 use Rattle.type_names.specs.Resolution.{rows_before}
-use Rattle.world_build.specs.Signatures.{file_keys, first_sig, sigs_in}
+use Rattle.world_build.specs.Signatures.{file_keys, first_sig}
+use Rattle.image_files.specs.Signatures.{sigs_in}
 use Rattle.type_members.specs.Trees.{AreNumbered}
-use Rattle.world_build.specs.World.{reader, file_defs, file_of, world_file, tables_in}
+use Rattle.world_build.specs.World.{reader, file_defs, file_of, world_file}
+use Rattle.image_files.specs.Images.{tables_in}
 use Rattle.type_names.specs.WorldNames.{names, file_names, file_names_in, type_rows, type_rows_in}
-use Rattle.world_build.proofs.FewEnough.{AreBelow, are_below}
+use Rattle.image_files.proofs.FewEnough.{AreBelow, are_below}
 use Rattle.type_members.proofs.FileSums.{length_of_each, of_part, rows_within}
 use Rattle.type_names.proofs.NamesCount.{names_few}
 use Rattle.world_build.proofs.WorldCounts.{file_keys_count, reader_tables}

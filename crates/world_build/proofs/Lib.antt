@@ -1,16 +1,13 @@
 pub mod BodiesFit
 pub mod Builds
 pub mod CoreFits
-pub mod Counted
 pub mod DefsFit
 pub mod EachBytes
 pub mod EntryLemmas
-pub mod FewEnough
 pub mod FewFiles
 pub mod FewMembers
 pub mod FileParts
 pub mod LocalsCount
-pub mod ManyImages
 pub mod NamesOfDefs
 pub mod Pushed
 pub mod RefNotes

@@ -1,44 +1,12 @@
--- How many local variables stand before those of a row.
-use Rattle.std.proofs.Common.{◌≡◌, ℕ, ◌+◌, ◌<◌, ◌≤◌, List, take, length, Option, None, Some, get_or, refl, ap, ◌∙◌, arith}
+-- How many local variables a row lists, by where they stand.
+use Rattle.std.proofs.Common.{◌≡◌, ℕ, List, length, Option, None, Some, refl}
 use Rattle.std.specs.Option.{option_map, option_map_or}
-use Rattle.std.specs.List.{sum_by}
-use Rattle.std.proofs.lemmas.List.FromFn.{length-range_with_len, get_or-range_with_len}
-use Rattle.std.proofs.lemmas.List.Sums.{sum_by_more, sum_by-take-le}
 use Rattle.cli_sigs.specs.declared.signature.SigTy.{SigTy}
-use Rattle.cli_tables.specs.Metadata.{Metadata}
 use Rattle.type_tree.specs.declared.parts.Locals.{Locals}
-use Rattle.image_rows.specs.Cells.{rows, rows_of}
-use Rattle.world_build.specs.Signatures.{locals_in, listed, locals_before}
-use Rattle.world_build.proofs.WorldCounts.{all_taken}
-
--- one row more
-pub locals_more : (m : Metadata) (row : ℕ) → row < rows m 0x11
-    → locals_before m (row + 1) ≡ locals_before m row + length (listed (locals_in m (row + 1)))
-unfolding locals_before
-locals_more m row less =
-    let count = length-range_with_len 1 (rows m 0x11) in
-    let at : get_or (rows_of m 0x11) row 0 ≡ 1 + row = get_or-range_with_len 1 (rows m 0x11) row 0 less in
-    let last : 1 + row ≡ row + 1 = omega arith in
-    sum_by_more (λ r. length (listed (locals_in m r))) (rows_of m 0x11) row 0 (omega (arith, count))
-    ∙ ap (λ (r : ℕ). locals_sum m row + length (listed (locals_in m r))) (at ∙ last)
-  where
-    locals_sum : Metadata → ℕ → ℕ
-    locals_sum m n = sum_by (λ r. length (listed (locals_in m r))) (take n (rows_of m 0x11))
-
--- those of the first rows are among all
-pub locals_most : (m : Metadata) (n : ℕ) → locals_before m n ≤ locals_before m (rows m 0x11)
-unfolding locals_before
-locals_most m n =
-    let part = sum_by-take-le (λ r. length (listed (locals_in m r))) (rows_of m 0x11) n in
-    let all = ap (sum_by (λ r. length (listed (locals_in m r)))) (all_taken m) in
-    omega (arith, part, all)
+use Rattle.image_files.specs.Signatures.{listed}
 
 -- how many a place has
 pub count_placed : (first : ℕ) (found : Option (List SigTy))
     → option_map_or (λ (locals : Locals). locals.count) (option_map (λ ts. record { first = record { 0 = first }; count = length ts }) found) 0 ≡ length (listed found)
 count_placed first None = refl
 count_placed first (Some ts) = refl
-
-pub locals_none : (m : Metadata) → locals_before m 0 ≡ 0
-unfolding locals_before
-locals_none m = refl

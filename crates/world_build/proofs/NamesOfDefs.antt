@@ -22,7 +22,8 @@ use Rattle.world_build.specs.References.{impls_of}
 use Rattle.world_build.specs.Roots.{world_with}
 use Rattle.type_members.specs.Trees.{empty_name}
 use Rattle.image_rows.specs.TypeNames.{full_name}
-use Rattle.world_build.specs.World.{reader, file_defs, tables_in, world}
+use Rattle.world_build.specs.World.{reader, file_defs, world}
+use Rattle.image_files.specs.Images.{tables_in}
 use Rattle.type_names.specs.WorldNames.{names, file_names, file_names_in}
 use Rattle.type_members.proofs.NamesThere.{is_among, same_text, defs_there}
 

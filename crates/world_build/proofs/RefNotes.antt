@@ -7,8 +7,6 @@ use Rattle.std.proofs.lemmas.List.FromFn.{length-map-range_with_len, get_or-map-
 use Rattle.clr_base.specs.declared.ids.NameId.{NameId}
 use Rattle.cli_sigs.specs.declared.signature.SigMethod.{SigMethod}
 use Rattle.cli_sigs.specs.declared.signature.SigTy.{SigTy}
-use Rattle.cli_sigs.specs.declared.signature.SigTy.TheVariants as sig
-use Rattle.cli_sigs.specs.Signatures.{placed, field_at, member_at}
 use Rattle.cli_tables.specs.declared.schema.CodedIndex.TheVariants.{MemberRefParent}
 use Rattle.indexmap.specs.IndexMap.{IndexMap}
 use Rattle.type_tree.specs.declared.parts.Member.{Member}
@@ -22,7 +20,7 @@ use Rattle.type_members.specs.MemberTable.{open_of, own_field, own_method}
 use Rattle.type_members.specs.Members.{field_in, method_in}
 use Rattle.core_types.specs.Names.{id_in}
 use Rattle.world_build.specs.References.{Reader, field_member, member_ref, method_member, ref_blob, ref_field_sig, ref_member, ref_method_sig, ref_name_id, ref_owner}
-use Rattle.image_rows.specs.Blobs.{begins_with, row_counts, value_or}
+use Rattle.image_rows.specs.Blobs.{begins_with}
 use Rattle.type_members.specs.Trees.{tree, type_at_row}
 use Rattle.clr_base.proofs.ListFacts.{both, choose}
 

@@ -27,8 +27,10 @@ use Rattle.type_members.specs.MemberTable.{of_each, member_table, run_of}
 use Rattle.type_members.specs.Members.{file_methods, file_fields}
 use Rattle.world_build.specs.References.{member_ref, method_spec, impls_of}
 use Rattle.type_names.specs.Resolution.{rows_before}
-use Rattle.world_build.specs.Signatures.{well_known, locals_in, listed, file_keys, row_sigs, locals_before, sigs_in, first_sig, locals_run, locals_of}
-use Rattle.world_build.specs.World.{reader, file_defs, file_of, world_file, of_bytes, tables_in, no_body, world}
+use Rattle.world_build.specs.Signatures.{well_known, file_keys, first_sig, locals_run, locals_of}
+use Rattle.image_files.specs.Signatures.{locals_in, listed, row_sigs, locals_before, sigs_in}
+use Rattle.world_build.specs.World.{reader, file_defs, file_of, world_file, of_bytes, no_body, world}
+use Rattle.image_files.specs.Images.{tables_in}
 use Rattle.type_names.specs.WorldNames.{names, file_names}
 use Rattle.world_build.proofs.BodiesFit.{body_fits}
 use Rattle.world_build.proofs.CoreFits.{count_of_methods, defs_fit_all, methods_fit_all, well_known_fit}
@@ -40,7 +42,8 @@ use Rattle.type_names.proofs.NamesCount.{names_few, more_than_core}
 use Rattle.type_members.proofs.NamesThere.{type_rows_fit, file_names_fit}
 use Rattle.world_build.proofs.ReferencesFit.{ReaderFits, member_ref_fits, method_spec_fits, impls_of_fit}
 use Rattle.world_build.proofs.RunsFit.{run_fits}
-use Rattle.world_build.proofs.WorldCounts.{all_taken, def_total, method_total, field_total, sig_total}
+use Rattle.image_files.proofs.LocalsCount.{all_taken}
+use Rattle.world_build.proofs.WorldCounts.{def_total, method_total, field_total, sig_total}
 use Rattle.world_build.proofs.WorldFits.{AreFew, named_few, length_of_bytes, all_of_bytes, table_at, one_each}
 
 -- ---- definitions stand in the order of their files

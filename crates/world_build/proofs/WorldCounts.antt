@@ -1,9 +1,8 @@
 -- How many definitions, methods, fields and signatures a world has.
-use Rattle.std.proofs.Common.{◌≡◌, ℕ, ◌+◌, List, [], ◌∷◌, ◌++◌, map, take, length, refl, sym, ap, ap₂, ◌∙◌, arith}
+use Rattle.std.proofs.Common.{◌≡◌, ℕ, ◌+◌, List, [], ◌∷◌, ◌++◌, map, length, refl, sym, ap, ap₂, ◌∙◌, arith}
 use Rattle.std.specs.List.{flat_map, sum_by}
-use Rattle.std.proofs.Math.Seq.{take-length}
 use Rattle.std.proofs.lemmas.List.{length-append, length-map}
-use Rattle.std.proofs.lemmas.List.FromFn.{length-range_with_len, length-map-range_with_len}
+use Rattle.std.proofs.lemmas.List.FromFn.{length-map-range_with_len}
 use Rattle.std.proofs.lemmas.List.Sums.{sum_by-cons}
 use Rattle.cli_tables.specs.Metadata.{Metadata}
 use Rattle.type_tree.specs.declared.tree.Key.TheVariants.{Tree}
@@ -15,7 +14,9 @@ use Rattle.image_rows.specs.Cells.{rows, rows_of}
 use Rattle.type_members.specs.MemberTable.{of_each, member_table}
 use Rattle.type_members.specs.Members.{file_methods, file_fields}
 use Rattle.world_build.specs.References.{Reader, spec_key}
-use Rattle.world_build.specs.Signatures.{well_known, types_in, row_types, owners_in, member_keys, locals_in, listed, local_keys, file_keys, row_sigs, locals_before, sigs_in}
+use Rattle.world_build.specs.Signatures.{well_known, types_in, row_types, owners_in, member_keys, local_keys, file_keys}
+use Rattle.image_files.proofs.LocalsCount.{all_taken}
+use Rattle.image_files.specs.Signatures.{locals_in, listed, row_sigs, locals_before, sigs_in}
 use Rattle.type_members.specs.Trees.{tree}
 use Rattle.world_build.specs.World.{reader, file_defs}
 use Rattle.type_names.specs.WorldNames.{file_names}
@@ -76,9 +77,6 @@ listed_sum w (row ∷ rest) =
     length-append (map (λ t. Tree (tree w.types t)) (listed (locals_in w.tables row))) _
     ∙ ap₂ ◌+◌ (length-map (listed (locals_in w.tables row)) (λ t. Tree (tree w.types t))) (listed_sum w rest)
     ∙ sym (sum_by-cons (λ row. length (listed (locals_in w.tables row))) row rest)
-
-pub all_taken : (m : Metadata) → take (rows m 0x11) (rows_of m 0x11) ≡ rows_of m 0x11
-all_taken m = ap (λ (n : ℕ). take n (rows_of m 0x11)) (sym (length-range_with_len 1 (rows m 0x11))) ∙ take-length (rows_of m 0x11)
 
 local_keys_count : (w : Reader) → length (local_keys w.types w.tables) ≡ locals_before w.tables (rows w.tables 0x11)
 unfolding local_keys locals_before

@@ -10,8 +10,9 @@ use Rattle.core_types.specs.CoreTable.{core_defs, core_methods}
 use Rattle.image_rows.specs.Cells.{rows}
 use Rattle.image_rows.specs.Image.{metadata_in}
 use Rattle.image_rows.specs.Rows.{ArePassed}
-use Rattle.world_build.specs.Signatures.{row_sigs, sigs_in}
-use Rattle.world_build.specs.World.{of_bytes, tables_in}
+use Rattle.image_files.specs.Signatures.{row_sigs, sigs_in}
+use Rattle.world_build.specs.World.{of_bytes}
+use Rattle.image_files.specs.Images.{tables_in}
 use Rattle.type_members.proofs.FileSums.{all_rows}
 use Rattle.clr_base.proofs.ListFacts.{all_of_both}
 use Rattle.type_names.proofs.NamesCount.{named_rows}

@@ -4,9 +4,10 @@ use Rattle.type_tree.specs.World.{Facts}
 use Rattle.world_build.specs.declared.building.BuildFault.{BuildFault}
 use Rattle.world_build.specs.declared.building.BuildFault.TheVariants as fault
 use Rattle.world_build.specs.declared.roots.RootForm.{RootForm}
-use Rattle.world_build.specs.Images.{images_of}
+use Rattle.image_files.specs.Images.{images_of}
 use Rattle.world_build.specs.Roots.{HasRoots, IsFirstUnnamed}
-use Rattle.world_build.specs.World.{tables_in, world}
+use Rattle.world_build.specs.World.{world}
+use Rattle.image_files.specs.Images.{tables_in}
 
 -- Every file passes its checks.
 abbrev pub AreTaken : List (List ℕ) → Type 0

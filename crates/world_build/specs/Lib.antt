@@ -1,9 +1,7 @@
 pub mod Bodies
 pub mod Build
-pub mod Counts
 pub mod DefNames
 pub mod Entries
-pub mod Images
 pub mod MemberRefs
 pub mod Readers
 pub mod References

@@ -6,8 +6,7 @@ use Rattle.clr_base.specs.declared.ids.MethId.{MethId}
 use Rattle.clr_base.specs.declared.ids.NameId.{NameId}
 use Rattle.cli_sigs.specs.declared.signature.SigMethod.{SigMethod}
 use Rattle.cli_sigs.specs.declared.signature.SigTy.{SigTy}
-use Rattle.cli_sigs.specs.declared.signature.SigTy.TheVariants as sig
-use Rattle.cli_sigs.specs.Signatures.{placed, field_at, member_at, method_spec_at}
+use Rattle.cli_sigs.specs.Signatures.{placed, method_spec_at}
 use Rattle.cli_tables.specs.declared.schema.CodedIndex.TheVariants.{MemberRefParent, MethodDefOrRef}
 use Rattle.cli_tables.specs.Metadata.{Metadata}
 use Rattle.type_tree.specs.declared.definition.Impl.{Impl}

@@ -1,9 +1,7 @@
 -- The signatures of a world, in their order, and where those of a file stand.
-use Rattle.std.specs.Prelude.{ℕ, ◌+◌, ◌*◌, List, [], ◌∷◌, ◌++◌, map, length, sum_by, take, Option, None, Some, unwrap_or, if◌then◌else◌}
+use Rattle.std.specs.Prelude.{ℕ, ◌+◌, List, [], ◌∷◌, ◌++◌, map, length, sum_by, take, Option, Some}
 use Rattle.std.specs.Option.{option_map}
 use Rattle.std.specs.List.{flat_map, enumerate_from}
-use Rattle.cli_sigs.specs.declared.signature.SigTy.{SigTy}
-use Rattle.cli_sigs.specs.Signatures.{placed, locals_at}
 use Rattle.cli_tables.specs.Metadata.{Metadata}
 use Rattle.type_tree.specs.declared.parts.Locals.{Locals}
 use Rattle.type_tree.specs.declared.tree.Key.{Key}
@@ -13,8 +11,8 @@ use Rattle.type_tree.specs.declared.tree.Ty.TheVariants as ty
 use Rattle.core_types.specs.declared.core_type.CoreType.TheVariants.{String, TypeObject}
 use Rattle.type_names.specs.declared.type_rows.TypeRows.{TypeRows}
 use Rattle.core_types.specs.CoreLibrary.{plain}
-use Rattle.image_rows.specs.Cells.{at, blob_by, owner_of, rows, rows_of}
-use Rattle.image_rows.specs.Blobs.{begins_with, row_counts, value_or}
+use Rattle.image_rows.specs.Cells.{owner_of, rows_of}
+use Rattle.image_files.specs.Signatures.{listed, locals_in, row_sigs, locals_before, sigs_in}
 use Rattle.type_members.specs.Trees.{tree, type_at_row}
 use Rattle.world_build.specs.References.{Reader, owner_type, ref_owner, spec_key}
 
@@ -43,18 +41,6 @@ member_keys w =
     ++ map (λ row. Tree (ref_owner w row)) (rows_of w.tables 0x0A)
     ++ map (spec_key w) (rows_of w.tables 0x2B)
 
--- the types of the local variables that the blob at an index lists (II.23.2.6), none where it doesn't begin with 07
-unfoldable pub locals_by : Metadata → ℕ → Option (List SigTy)
-locals_by m index =
-    if begins_with 0x07 (blob_by m index) then Some (value_or [] (placed (blob_by m index) (locals_at (row_counts m) (blob_by m index)))) else None
-
--- those of a StandAloneSig row
-abbrev pub locals_in : Metadata → ℕ → Option (List SigTy)
-locals_in m row = locals_by m (at m 0x11 row 0)
-
-abbrev pub listed : Option (List SigTy) → List SigTy
-listed ts = unwrap_or ts []
-
 unfoldable pub local_keys : TypeRows → Metadata → List Key
 local_keys s m = flat_map (λ row. map (λ t. Tree (tree s t)) (listed (locals_in m row))) (rows_of m 0x11)
 
@@ -65,17 +51,6 @@ file_keys w =
     ++ local_keys w.types w.tables
 
 -- ---- where they stand
-
--- how many signatures of rows there are before the local variables
-unfoldable pub row_sigs : Metadata → ℕ
-row_sigs m = 2 * (rows m 0x02 + rows m 0x01 + rows m 0x1B) + (rows m 0x04 + rows m 0x06 + rows m 0x0A + rows m 0x2B)
-
--- how many local variables the first n rows of StandAloneSig list
-unfoldable pub locals_before : Metadata → ℕ → ℕ
-locals_before m n = sum_by (λ row. length (listed (locals_in m row))) (take n (rows_of m 0x11))
-
-unfoldable pub sigs_in : Metadata → ℕ
-sigs_in m = row_sigs m + locals_before m (rows m 0x11)
 
 -- the number of a file's first signature
 unfoldable pub first_sig : List Metadata → ℕ → ℕ

@@ -14,6 +14,7 @@ use Rattle.image_rows.specs.Cells.{rows, rows_of, loose}
 use Rattle.type_members.specs.Definitions.{def_of}
 use Rattle.image_rows.specs.Image.{metadata_in}
 use Rattle.type_members.specs.MemberTable.{member_table, of_each, run_of}
+use Rattle.image_files.specs.Images.{tables_in}
 use Rattle.world_build.specs.References.{Reader, member_ref, method_spec, impls_of}
 use Rattle.type_names.specs.Resolution.{rows_before}
 use Rattle.world_build.specs.Signatures.{well_known, file_keys, first_sig, locals_of}
@@ -71,9 +72,6 @@ no_body = None
 abbrev pub of_bytes : {X : Type 0} → (List ℕ → ℕ → Metadata → List X) → ℕ → List (List ℕ) → List X
 of_bytes give k [] = []
 of_bytes give k (b ∷ bs) = give b k (metadata_in b) ++ of_bytes give (k + 1) bs
-
-abbrev pub tables_in : List (List ℕ) → List Metadata
-tables_in files = map metadata_in files
 
 unfoldable pub world : List (List ℕ) → WorldParts
 world files = record {

@@ -1,12 +1,12 @@
 //! From files and root words to a world.
 ghost use Rattle.std.specs.Prelude.{◌≡◌, ◌≤◌, length, map, string_bytes};
 ghost use Rattle.world_build.specs.Build as spec;
-ghost use Rattle.world_build.specs.Images.{bytes_of_each};
+ghost use Rattle.image_files.specs.Images.{bytes_of_each};
 
-use crate::images::{ImagesFault, read_images};
 use crate::roots::{RootForm, RootsFault, with_roots};
 use crate::worlds::file_world;
 use clr_base::{ImageFault, Memory, Text};
+use image_files::{ImagesFault, read_images};
 use std::alloc::Global;
 use type_tree::World;
 

@@ -3,6 +3,7 @@ ghost use Rattle.std.specs.Prelude.{◌≡◌, ◌+◌, ◌≤◌, ◌++◌, map
 ghost use Rattle.type_tree.specs.declared.tree.Key.TheVariants as key;
 ghost use Rattle.type_tree.specs.declared.tree.Ty.TheVariants as ty;
 ghost use Rattle.image_rows.specs.Cells.{rows_of};
+ghost use Rattle.image_files.specs.Signatures as signatures;
 ghost use Rattle.world_build.specs.MemberRefs.{members_of_refs as all_refs};
 ghost use Rattle.world_build.specs.References as references;
 ghost use Rattle.world_build.specs.Signatures as spec;
@@ -12,9 +13,10 @@ use crate::local_signatures::push_locals;
 use crate::method_specs::spec_key;
 use crate::reader::Reader;
 use crate::references::ref_owner;
-use crate::row_signatures::{push_arrays, push_owners, push_types, row_sigs};
+use crate::row_signatures::{push_arrays, push_owners, push_types};
 use cli_tables::Tables;
 use clr_base::Memory;
+use image_files::row_sigs;
 use image_rows::{
     FIELD, FIELD_LIST, MEMBER_REF, METHOD_DEF, METHOD_LIST, METHOD_SPEC, TYPE_DEF, TYPE_REF,
     TYPE_SPEC,
@@ -101,7 +103,7 @@ pub fn push_signatures(
     keys: &mut KeyList,
 ) -> Result<Items<Option<Locals>>, Memory>
     requires refs { refs.now ≡ all_refs reader.now }
-    requires few { first + spec.sigs_in reader.now.tables ≤ 16777215 }
+    requires few { first + signatures.sigs_in reader.now.tables ≤ 16777215 }
     ensures keys { OnOk result (keys.new ≡ keys.old ++ spec.file_keys reader.now) }
     ensures places { IfOk result (λ places. places ≡ spec.locals_of reader.now.tables first) }
 {

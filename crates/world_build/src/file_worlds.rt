@@ -2,13 +2,14 @@
 ghost use Rattle.std.specs.Prelude.{◌≡◌, ◌+◌, ◌≤◌, ◌++◌, [], ◌∷◌, true, length, map, OnOk};
 ghost use Rattle.world_build.specs.Bodies as bodies;
 ghost use Rattle.image_rows.specs.Cells.{rows_of};
-ghost use Rattle.world_build.specs.Counts.{are_few, totals_of};
+ghost use Rattle.image_files.specs.Counts.{are_few, totals_of};
 ghost use Rattle.core_types.specs.CoreTable.{core_methods};
 ghost use Rattle.type_members.specs.Definitions as definitions;
-ghost use Rattle.world_build.specs.Images.{bytes_of_each};
+ghost use Rattle.image_files.specs.Images.{bytes_of_each, tables_in};
 ghost use Rattle.type_members.specs.MemberIndexes.{IsIndexOf};
 ghost use Rattle.type_members.specs.MemberTable as table;
 ghost use Rattle.world_build.specs.References as references;
+ghost use Rattle.image_files.specs.Signatures.{sigs_in};
 ghost use Rattle.world_build.specs.Signatures as signatures;
 ghost use Rattle.type_members.specs.Trees.{AreNumbered};
 ghost use Rattle.world_build.specs.World as spec;
@@ -61,7 +62,7 @@ fn push_file(
     requires file { file ≤ 16 }
     requires fields { before.fields ≤ 16777215 }
     requires methods { before.methods ≤ 16777215 }
-    requires sigs { length parts.old.sigs + signatures.sigs_in reader.now.tables ≤ 16777215 }
+    requires sigs { length parts.old.sigs + sigs_in reader.now.tables ≤ 16777215 }
     ensures defs { OnOk result (parts.new.defs ≡ parts.old.defs ++ map (λ row. definitions.def_of names.now reader.now.tables (file + 1) (table.run_at before.fields before.methods reader.now.tables row) (references.impls_of reader.now row) row) (rows_of reader.now.tables 0x02)) }
     ensures bodies { OnOk result (parts.new.bodies ≡ parts.old.bodies ++ bodies.file_bodies bytes.now (file + 1) reader.now.tables) }
     ensures sigs { OnOk result (parts.new.sigs ≡ parts.old.sigs ++ signatures.file_keys reader.now) }
@@ -104,7 +105,7 @@ pub fn push_files(
     tables: &[Tables<'_>],
     parts: &mut Growing,
 ) -> Result<(), Memory>
-    requires images { tables.now ≡ spec.tables_in (bytes_of_each files.now) }
+    requires images { tables.now ≡ tables_in (bytes_of_each files.now) }
     requires count { length tables.now ≤ 16 }
     requires few { are_few (totals_of tables.now) ≡ true }
     requires names { names.now ≡ names_of.names tables.now }

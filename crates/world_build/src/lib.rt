@@ -4,13 +4,11 @@
 
 mod bodies;
 mod building;
-mod counts;
 mod entries;
 mod file_definitions;
 mod file_signatures;
 mod file_tokens;
 mod file_worlds;
-mod images;
 mod local_signatures;
 mod member_refs;
 mod method_impls;
@@ -25,7 +23,6 @@ mod world_laws;
 mod worlds;
 
 pub use building::{BuildFault, build};
-pub use images::{ImagesFault, read_images};
 pub use root_laws::{no_world_of_an_unnamed_word, one_root_of_a_word, one_world_of_roots};
 pub use roots::{NamedRoot, RootForm, RootsFault, with_roots};
 pub use world_laws::definitions_called_by_their_rows;

@@ -3,6 +3,7 @@ ghost use Rattle.std.specs.Prelude.{◌≡◌, ◌+◌, ◌≤◌, ◌++◌, len
 ghost use Rattle.std.specs.Option.{option_map, option_map_or};
 ghost use Rattle.cli_tables.specs.Layout.{row_count};
 ghost use Rattle.type_tree.specs.declared.tree.Key.TheVariants as key;
+ghost use Rattle.image_files.specs.Signatures as signatures;
 ghost use Rattle.world_build.specs.Signatures as spec;
 ghost use Rattle.type_members.specs.Trees.{AreNumbered, tree as tree_of};
 
@@ -17,13 +18,9 @@ use type_names::TypeRows;
 use type_tree::{Key, KeyList, Locals};
 
 /// The types of the local variables that the blob at an index lists (II.23.2.6), none where it doesn't begin with 07.
-#[tactic(auto, unfolding(crate::specs::Signatures::locals_by))]
-pub fn locals_by(
-    alloc: Global,
-    tables: &Tables<'_>,
-    index: u32,
-) -> Result<Option<SigTyList>, Memory>
-    ensures { IfOk result (λ listed. listed ≡ spec.locals_by tables.now index) }
+#[tactic(auto, unfolding(image_files::specs::Signatures::locals_by))]
+fn locals_by(alloc: Global, tables: &Tables<'_>, index: u32) -> Result<Option<SigTyList>, Memory>
+    ensures { IfOk result (λ listed. listed ≡ signatures.locals_by tables.now index) }
 {
     let blob = blob_by(tables, index);
     if !begins_with(LOCALS_CODE, blob) {
@@ -62,9 +59,9 @@ fn push_row(
     requires numbered { AreNumbered types.now }
     requires first { 1 ≤ row }
     requires last { row ≤ row_count tables.now.tables 0x11 }
-    requires few { length (spec.listed (spec.locals_in tables.now row)) ≤ 16777215 }
-    ensures keys { OnOk result (keys.new ≡ keys.old ++ map (λ t. key.Tree (tree_of types.now t)) (spec.listed (spec.locals_in tables.now row))) }
-    ensures place { IfOk result (λ place. place ≡ option_map (λ ts. record { first = record { 0 = first }; count = length ts }) (spec.locals_in tables.now row)) }
+    requires few { length (signatures.listed (signatures.locals_in tables.now row)) ≤ 16777215 }
+    ensures keys { OnOk result (keys.new ≡ keys.old ++ map (λ t. key.Tree (tree_of types.now t)) (signatures.listed (signatures.locals_in tables.now row))) }
+    ensures place { IfOk result (λ place. place ≡ option_map (λ ts. record { first = record { 0 = first }; count = length ts }) (signatures.locals_in tables.now row)) }
 {
     let index = tables.cell(STAND_ALONE_SIG, row, 0);
     let Some(listed) = locals_by(alloc, tables, index)? else {
@@ -99,8 +96,8 @@ pub fn push_locals(
     keys: &mut KeyList,
 ) -> Result<Items<Option<Locals>>, Memory>
     requires numbered { AreNumbered types.now }
-    requires rows { row_sigs ≡ spec.row_sigs tables.now }
-    requires few { first + spec.sigs_in tables.now ≤ 16777215 }
+    requires rows { row_sigs ≡ signatures.row_sigs tables.now }
+    requires few { first + signatures.sigs_in tables.now ≤ 16777215 }
     ensures keys { OnOk result (keys.new ≡ keys.old ++ spec.local_keys types.now tables.now) }
     ensures places { IfOk result (λ places. places ≡ spec.locals_of tables.now first) }
 {

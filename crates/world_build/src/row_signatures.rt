@@ -1,4 +1,4 @@
-//! The signatures that a file's rows have, in their order, and how many they are.
+//! The signatures that a file's rows have, in their order.
 ghost use Rattle.std.specs.Prelude.{◌≡◌, ◌++◌, ◌<◌, ◌≤◌, length, map, OnOk};
 ghost use Rattle.cli_tables.specs.Schema.{columns};
 ghost use Rattle.type_tree.specs.declared.tree.Key.TheVariants as key;
@@ -8,9 +8,7 @@ ghost use Rattle.type_members.specs.Trees.{AreNumbered};
 
 use cli_tables::Tables;
 use clr_base::Memory;
-use image_rows::{
-    FIELD, MEMBER_REF, METHOD_DEF, METHOD_SPEC, RowOf, TYPE_DEF, TYPE_REF, TYPE_SPEC, owners,
-};
+use image_rows::{RowOf, owners};
 use sqlite_items::{Boxed, Items};
 use std::alloc::Global;
 use type_members::{def_type, type_at_row};
@@ -74,20 +72,4 @@ pub fn push_owners(
         keys.push(Key::Tree(def_type(types, Items::new(alloc), false, def)))?;
     }
     Ok(())
-}
-
-/// How many signatures the rows of a file have, before the local variables: two a type, one a member.
-#[tactic(auto, unfolding(crate::specs::Signatures::row_sigs))]
-pub(crate) fn row_sigs(tables: &Tables<'_>) -> u32
-    ensures exact { result ≡ spec.row_sigs tables.now }
-    ensures few { result ≤ 167772150 }
-{
-    let types = tables.row_count(TYPE_DEF)
-        + tables.row_count(TYPE_REF)
-        + tables.row_count(TYPE_SPEC);
-    let members = tables.row_count(FIELD)
-        + tables.row_count(METHOD_DEF)
-        + tables.row_count(MEMBER_REF)
-        + tables.row_count(METHOD_SPEC);
-    2 * types + members
 }

@@ -5,7 +5,8 @@ ghost use Rattle.image_rows.specs.Cells.{rows_of};
 ghost use Rattle.world_build.specs.DefNames.{names_in};
 ghost use Rattle.world_build.specs.Roots.{HasRoots};
 ghost use Rattle.image_rows.specs.TypeNames.{full_name};
-ghost use Rattle.world_build.specs.World.{tables_in, world};
+ghost use Rattle.world_build.specs.World.{world};
+ghost use Rattle.image_files.specs.Images.{tables_in};
 
 use crate::roots::RootForm;
 use type_tree::World;

@@ -1,16 +1,16 @@
 //! The world of files that pass their checks, before its roots.
 ghost use Rattle.std.specs.Prelude.{◌≡◌, ◌≤◌, [], true, length, IfOk};
 ghost use Rattle.std.proofs.Math.ListN.{replicate};
-ghost use Rattle.world_build.specs.Counts.{are_few, totals_of};
-ghost use Rattle.world_build.specs.Images.{bytes_of_each};
+ghost use Rattle.image_files.specs.Counts.{are_few, totals_of};
+ghost use Rattle.image_files.specs.Images.{bytes_of_each, tables_in};
 ghost use Rattle.world_build.specs.Signatures as signatures;
 ghost use Rattle.world_build.specs.World as spec;
 
 use crate::file_worlds::{Growing, push_files};
-use crate::row_signatures::row_sigs;
 use cli_tables::Tables;
 use clr_base::Memory;
 use core_types::{CoreType, core_library, plain};
+use image_files::row_sigs;
 use image_rows::STAND_ALONE_SIG;
 use sqlite_items::{Boxed, Items};
 use std::alloc::Global;
@@ -75,7 +75,7 @@ pub fn file_world(
     files: &[Vec<u8>],
     tables: &[Tables<'_>],
 ) -> Result<WorldParts, Memory>
-    requires images { tables.now ≡ spec.tables_in (bytes_of_each files.now) }
+    requires images { tables.now ≡ tables_in (bytes_of_each files.now) }
     requires count { length tables.now ≤ 16 }
     requires few { are_few (totals_of tables.now) ≡ true }
     ensures { IfOk result (λ parts. parts ≡ spec.world (bytes_of_each files.now)) }

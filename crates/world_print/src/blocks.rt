@@ -2,11 +2,12 @@
 use crate::page::Page;
 use crate::questions;
 use clr_base::ImageFault;
+use image_files::{ImagesFault, read_images};
 use std::alloc::Global;
 use std::rt::Files;
 use std::{fs, io};
 use type_tree::World;
-use world_build::{BuildFault, ImagesFault, RootForm, RootsFault, build, read_images, with_roots};
+use world_build::{BuildFault, RootForm, RootsFault, build, with_roots};
 
 /// What the first line of a block names.
 #[derive(Drop)]

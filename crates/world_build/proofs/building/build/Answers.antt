@@ -1,7 +1,7 @@
 use Rattle.std.proofs.Common.{◌∙◌, length, sym, ap, subst, arith}
 use Rattle.type_tree.specs.declared.parts.WorldParts.{WorldParts}
 use Rattle.type_tree.specs.Whole.{IsWhole}
-use Rattle.world_build.specs.Images.{bytes_of_each}
+use Rattle.image_files.specs.Images.{bytes_of_each}
 use Rattle.world_build.specs.World.{world}
 use Rattle.world_build.proofs.FewFiles.{few_files}
 use Rattle.world_build.proofs.WholeWorld.{world_is_whole}

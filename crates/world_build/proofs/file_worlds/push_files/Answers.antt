@@ -5,8 +5,9 @@ use Rattle.std.proofs.lemmas.List.{append-nil, length-map}
 use Rattle.std.proofs.lemmas.Option.{slice_get_read}
 use Rattle.world_build.specs.Bodies.{file_bodies}
 use Rattle.image_rows.specs.Image.{metadata_in}
-use Rattle.world_build.specs.Images.{bytes_of_each}
-use Rattle.world_build.specs.Signatures.{file_keys, sigs_in}
+use Rattle.image_files.specs.Images.{bytes_of_each}
+use Rattle.world_build.specs.Signatures.{file_keys}
+use Rattle.image_files.specs.Signatures.{sigs_in}
 use Rattle.world_build.specs.World.{file_defs, reader, world_file}
 use Rattle.world_build.proofs.EachBytes.{bytes_file}
 use Rattle.type_members.proofs.EachFile.{each_file}

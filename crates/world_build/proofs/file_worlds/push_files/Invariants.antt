@@ -1,6 +1,6 @@
 use Rattle.std.proofs.Common.{◌≡◌, ◌+◌, ◌++◌, [], ◌∷◌, take}
 use Rattle.world_build.specs.Bodies.{file_bodies}
-use Rattle.world_build.specs.Images.{bytes_of_each}
+use Rattle.image_files.specs.Images.{bytes_of_each}
 use Rattle.type_members.specs.MemberTable.{of_each}
 use Rattle.type_names.specs.Resolution.{rows_before}
 use Rattle.world_build.specs.Signatures.{file_keys}

@@ -3,9 +3,11 @@ use Rattle.std.specs.Option.{option_map, option_map_or}
 use Rattle.std.proofs.lemmas.List.{append-nil}
 use Rattle.type_tree.specs.declared.tree.Key.TheVariants as key
 use Rattle.image_rows.specs.Cells.{rows}
-use Rattle.world_build.specs.Signatures.{listed, locals_in, locals_run, sigs_in}
+use Rattle.world_build.specs.Signatures.{locals_run}
+use Rattle.image_files.specs.Signatures.{listed, locals_in, sigs_in}
 use Rattle.type_members.specs.Trees.{tree}
-use Rattle.world_build.proofs.LocalsCount.{locals_more, locals_most, count_placed, locals_none}
+use Rattle.image_files.proofs.LocalsCount.{locals_more, locals_most, locals_none}
+use Rattle.world_build.proofs.LocalsCount.{count_placed}
 use Rattle.world_build.proofs.Pushed.{appended, enumerate_row}
 use Rattle.world_build.proofs.local_signatures.push_locals.Goals as goal
 

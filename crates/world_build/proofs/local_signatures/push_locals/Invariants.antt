@@ -1,7 +1,8 @@
 use Rattle.std.proofs.Common.{◌≡◌, ◌+◌, ◌++◌, map}
 use Rattle.std.specs.List.{flat_map, enumerate_from, range_with_len}
 use Rattle.type_tree.specs.declared.tree.Key.TheVariants as key
-use Rattle.world_build.specs.Signatures.{listed, locals_in, locals_before, row_sigs, locals_run}
+use Rattle.world_build.specs.Signatures.{locals_run}
+use Rattle.image_files.specs.Signatures.{listed, locals_in, locals_before, row_sigs}
 use Rattle.type_members.specs.Trees.{tree}
 use Rattle.world_build.proofs.local_signatures.push_locals.Given as goal
 

@@ -7,14 +7,14 @@ use Rattle.clr_base.specs.declared.image_fault.ImageFault.{ImageFault}
 use Rattle.clr_base.specs.Checks.{Check, outcome, first_fault}
 use Rattle.clr_base.proofs.Checks.{outcome_failed, outcome_passed, outcome_value, outcome_of_fault}
 use Rattle.cli_tables.specs.Metadata.{Metadata}
-use Rattle.world_build.specs.declared.counts.Totals.{Totals}
+use Rattle.image_files.specs.declared.counts.Totals.{Totals}
 use Rattle.image_rows.specs.Cells.{rows}
-use Rattle.core_types.specs.CoreTable.{core_defs, core_methods}
-use Rattle.world_build.specs.Counts.{totals_of, with_file, count_checks}
+use Rattle.clr_base.specs.Core.{core_defs, core_methods}
+use Rattle.image_files.specs.Counts.{totals_of, with_file, count_checks}
 use Rattle.image_rows.specs.Image.{metadata_in, image_checks, image_of}
-use Rattle.world_build.specs.Images.{file_checks, next_image_of, or_fault, images_behind}
-use Rattle.world_build.specs.Signatures.{sigs_in}
-use Rattle.world_build.proofs.FewEnough.{same_four}
+use Rattle.image_files.specs.Images.{file_checks, next_image_of, or_fault, images_behind}
+use Rattle.image_files.specs.Signatures.{sigs_in}
+use Rattle.image_files.proofs.FewEnough.{same_four}
 
 passed_step : {X Y : Type 0} (passes : Bool) (fault : ImageFault) (z : X) (w : Y) (r : Result X ImageFault) (s : Result Y ImageFault)
     → (r ≡ Ok z → s ≡ Ok w) → cond passes r (Err fault) ≡ Ok z → cond passes s (Err fault) ≡ Ok w

@@ -1,8 +1,8 @@
 use Rattle.std.proofs.Common.{◌≡◌}
-use Rattle.world_build.specs.Counts.{capped, local_count}
+use Rattle.image_files.specs.Counts.{capped, local_count}
 use Rattle.image_rows.specs.SignatureChecks.{AreNotes}
-use Rattle.world_build.specs.Signatures.{locals_before}
-use Rattle.world_build.proofs.counts.all_locals.Given as goal
+use Rattle.image_files.specs.Signatures.{locals_before}
+use Rattle.image_files.proofs.counts.all_locals.Given as goal
 
 abbrev pub invariant-loop-row : goal.invariant-loop-row
 invariant-loop-row l = record {

@@ -4,20 +4,23 @@ use Rattle.std.specs.List.{sum_by}
 use Rattle.clr_base.specs.declared.image_fault.FaultKind.TheVariants.{TooMany}
 use Rattle.clr_base.specs.Checks.{Check, check}
 use Rattle.cli_tables.specs.Metadata.{Metadata}
-use Rattle.type_tree.specs.Whole.{most}
-use Rattle.world_build.specs.declared.counts.Totals.{Totals}
-use Rattle.core_types.specs.CoreTable.{core_defs, core_methods}
+use Rattle.image_files.specs.declared.counts.Totals.{Totals}
+use Rattle.clr_base.specs.Core.{core_defs, core_methods, core_sigs}
 use Rattle.image_rows.specs.Cells.{rows}
 use Rattle.image_rows.specs.Rows.{token}
-use Rattle.world_build.specs.Signatures.{listed, locals_before, locals_by, sigs_in}
+use Rattle.image_files.specs.Signatures.{listed, locals_before, locals_by, sigs_in}
 
--- those of the core library and of some files; of signatures the core has three
+-- the most that tokens can number: 24 bits of them are a row (ECMA-335 III.1.9)
+abbrev pub most : ℕ
+most = 16777215
+
+-- those of the core library and of some files; the core has no fields
 unfoldable pub totals_of : List Metadata → Totals
 totals_of files = record {
   defs = core_defs + sum_by (λ m. rows m 0x02) files;
   methods = core_methods + sum_by (λ m. rows m 0x06) files;
   fields = sum_by (λ m. rows m 0x04) files;
-  sigs = 3 + sum_by sigs_in files;
+  sigs = core_sigs + sum_by sigs_in files;
 }
 
 unfoldable pub are_few : Totals → Bool

@@ -1,12 +1,12 @@
 use Rattle.std.proofs.Common.{arith, ◌+◌, [], ◌∷◌, ◌++◌, Err, drop, map, sym, ap, ap₂, ◌∙◌}
 use Rattle.std.proofs.lemmas.Grind.{common_steps}
 use Rattle.clr_base.proofs.Checks.{outcome_value}
-use Rattle.world_build.specs.Counts.{are_few, totals_of, with_file}
+use Rattle.image_files.specs.Counts.{are_few, totals_of, with_file}
 use Rattle.image_rows.specs.Image.{metadata_in}
-use Rattle.world_build.specs.Images.{file_checks, next_image_of, images_behind}
+use Rattle.image_files.specs.Images.{file_checks, next_image_of, images_behind}
 use Rattle.image_rows.proofs.Giving.{given_fault}
-use Rattle.world_build.proofs.ManyImages.{next_total, next_passes, next_fails, none_behind, one_more, all_of_them}
-use Rattle.world_build.proofs.images.read_images.Goals as goal
+use Rattle.image_files.proofs.ManyImages.{next_total, next_passes, next_fails, none_behind, one_more, all_of_them}
+use Rattle.image_files.proofs.images.read_images.Goals as goal
 
 pub returns-in-Err-Fault-clause-exact : goal.returns-in-Err-Fault-clause-exact
 returns-in-Err-Fault-clause-exact c =

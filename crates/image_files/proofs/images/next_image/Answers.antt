@@ -1,9 +1,9 @@
 use Rattle.std.proofs.lemmas.Result.{err_from_is_err_and}
 use Rattle.clr_base.proofs.Checks.{outcome_value}
-use Rattle.world_build.specs.Counts.{with_file, count_checks}
+use Rattle.image_files.specs.Counts.{with_file, count_checks}
 use Rattle.image_rows.proofs.Giving.{gives_on}
-use Rattle.world_build.proofs.ManyImages.{own_fails, counts_fail, counts_pass}
-use Rattle.world_build.proofs.images.next_image.Goals as goal
+use Rattle.image_files.proofs.ManyImages.{own_fails, counts_fail, counts_pass}
+use Rattle.image_files.proofs.images.next_image.Goals as goal
 
 pub returns-in_err-image-clause-exact : goal.returns-in_err-image-clause-exact
 returns-in_err-image-clause-exact c = λ before counted.

@@ -7,13 +7,13 @@ use Rattle.clr_base.specs.declared.image_fault.FaultKind.TheVariants.{TooMany}
 use Rattle.clr_base.specs.Checks.{check, outcome, first_fault}
 use Rattle.clr_base.proofs.Checks.{outcome_of_fault}
 use Rattle.cli_tables.specs.Metadata.{Metadata}
-use Rattle.type_tree.specs.Whole.{most}
-use Rattle.world_build.specs.declared.counts.Totals.{Totals}
+use Rattle.image_files.specs.Counts.{most}
+use Rattle.image_files.specs.declared.counts.Totals.{Totals}
 use Rattle.image_rows.specs.Cells.{rows}
-use Rattle.world_build.specs.Counts.{are_few, count_checks, with_file, capped, all_locals}
+use Rattle.image_files.specs.Counts.{are_few, count_checks, with_file, capped, all_locals}
 use Rattle.image_rows.specs.Rows.{token}
-use Rattle.world_build.specs.Signatures.{row_sigs, locals_before, sigs_in}
-use Rattle.world_build.proofs.Counted.{stops, below, one_of}
+use Rattle.image_files.specs.Signatures.{row_sigs, locals_before, sigs_in}
+use Rattle.image_files.proofs.Counted.{stops, below, one_of}
 
 -- what are few enough, by themselves
 pub record AreBelow (t : Totals) : Type 0 where

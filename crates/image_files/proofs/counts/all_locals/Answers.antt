@@ -1,8 +1,8 @@
 use Rattle.std.proofs.Common.{arith}
-use Rattle.world_build.proofs.Counted.{capped_few, no_locals, more_locals, count_few, these_locals}
+use Rattle.image_files.proofs.Counted.{capped_few, no_locals, more_locals, count_few, these_locals}
 use Rattle.image_rows.proofs.Signed.{no_notes}
-use Rattle.world_build.specs.Signatures.{locals_before}
-use Rattle.world_build.proofs.counts.all_locals.Goals as goal
+use Rattle.image_files.specs.Signatures.{locals_before}
+use Rattle.image_files.proofs.counts.all_locals.Goals as goal
 
 pub loop-row-init : goal.loop-row-init
 loop-row-init c = record { counted = no_locals c.args.tables.now; noted = no_notes _ _ c.new-noted.ensures.empty }

@@ -1,10 +1,10 @@
 use Rattle.std.proofs.Common.{◌≡◌, All, length, true, take, drop}
-use Rattle.world_build.specs.Counts.{are_few, totals_of}
-use Rattle.world_build.specs.Images.{bytes_of_each, images_of, images_behind}
+use Rattle.image_files.specs.Counts.{are_few, totals_of}
+use Rattle.image_files.specs.Images.{bytes_of_each, images_of, images_behind}
 use Rattle.image_rows.specs.Rows.{ArePassed}
 use Rattle.image_rows.specs.SignatureChecks.{AreSigned}
-use Rattle.world_build.specs.World.{tables_in}
-use Rattle.world_build.proofs.images.read_images.Given as goal
+use Rattle.image_files.specs.Images.{tables_in}
+use Rattle.image_files.proofs.images.read_images.Given as goal
 
 abbrev pub invariant-loop-k : goal.invariant-loop-k
 invariant-loop-k l = record {

@@ -1,12 +1,12 @@
 //! Several files.
 ghost use Rattle.std.specs.Prelude.{◌≡◌, ◌<◌, ◌^◌, All, List, length, true, IfOk, OnOk};
 ghost use Rattle.cli_tables.specs.Metadata.{Metadata};
-ghost use Rattle.world_build.specs.Counts.{are_few, totals_of, with_file};
-ghost use Rattle.world_build.specs.Images.{GivesImages, bytes_of_each, images_of, next_image_of};
+ghost use Rattle.image_files.specs.Counts.{are_few, totals_of, with_file};
+ghost use Rattle.image_files.specs.Images.{GivesImages, bytes_of_each, images_of, next_image_of};
 ghost use Rattle.image_rows.specs.Refusals.{GivesOutcome};
 ghost use Rattle.image_rows.specs.Rows.{ArePassed};
 ghost use Rattle.image_rows.specs.SignatureChecks.{AreSigned};
-ghost use Rattle.world_build.specs.World.{tables_in};
+ghost use Rattle.image_files.specs.Images.{tables_in};
 
 use crate::counts::{Totals, count_file};
 use cli_tables::Tables;
@@ -24,7 +24,7 @@ pub enum ImagesFault {
 }
 
 impl From<AllocError> for ImagesFault {
-    ghost use Rattle.world_build.specs.declared.images.ImagesFault.TheVariants as fault;
+    ghost use Rattle.image_files.specs.declared.images.ImagesFault.TheVariants as fault;
 
     ghost from_gives = { λ _ e. e ≡ fault.Memory };
 

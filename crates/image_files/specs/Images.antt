@@ -4,14 +4,17 @@ use Rattle.std.specs.declared.alloc.Global.{Global}
 use Rattle.clr_base.specs.declared.image_fault.ImageFault.{ImageFault}
 use Rattle.clr_base.specs.Checks.{Check, outcome, first_fault}
 use Rattle.cli_tables.specs.Metadata.{Metadata}
-use Rattle.world_build.specs.declared.images.ImagesFault.{ImagesFault}
-use Rattle.world_build.specs.declared.images.ImagesFault.TheVariants.{Image, Memory}
-use Rattle.world_build.specs.Counts.{totals_of, count_checks}
+use Rattle.image_files.specs.declared.images.ImagesFault.{ImagesFault}
+use Rattle.image_files.specs.declared.images.ImagesFault.TheVariants.{Image, Memory}
+use Rattle.image_files.specs.Counts.{totals_of, count_checks}
 use Rattle.image_rows.specs.Image.{metadata_in, image_checks}
 
 -- the bytes of each file
 abbrev pub bytes_of_each : List (Vec ℕ Global) → List (List ℕ)
 bytes_of_each files = map (λ file. file.items) files
+
+abbrev pub tables_in : List (List ℕ) → List Metadata
+tables_in files = map metadata_in files
 
 -- the checks of a file, in order, where the metadata of the files before it is given: its own, and that of all counts so far
 unfoldable pub file_checks : List Metadata → List ℕ → List Check

@@ -1,15 +1,14 @@
 -- Sums of counts that stop where they are too many, and the local variables of one row more.
-use Rattle.std.proofs.Common.{◌≡◌, ℕ, ◌+◌, ◌<◌, ◌≤◌, ◌⊎◌, inl, inr, [], ◌∷◌, ◌++◌, length, take, refl, sym, ap, ap₂, ◌∙◌, arith}
-use Rattle.std.specs.List.{sum_by}
+use Rattle.std.proofs.Common.{◌≡◌, ℕ, ◌+◌, ◌<◌, ◌≤◌, ◌⊎◌, inl, inr, List, [], length, Result, Ok, Err, refl, sym, ap, ap₂, ◌∙◌, arith}
 use Rattle.std.proofs.Math.Nat.{min-eq_left, min-eq_right, min-le_right}
-use Rattle.std.proofs.lemmas.List.{take_more}
-use Rattle.std.proofs.lemmas.List.FromFn.{get_or-range_with_len, length-range_with_len}
-use Rattle.std.proofs.lemmas.List.Sums.{sum_by-append, sum_by-cons}
+use Rattle.cli_sigs.specs.declared.fault.SigFault.{SigFault}
+use Rattle.cli_sigs.specs.Signatures.{counted}
 use Rattle.cli_tables.specs.Metadata.{Metadata}
-use Rattle.image_rows.specs.Cells.{rows, rows_of, at}
-use Rattle.world_build.specs.Counts.{too_many, capped, local_count, all_locals}
-use Rattle.world_build.specs.Signatures.{listed, locals_by, locals_in, locals_before}
-use Rattle.world_build.proofs.LocalsCount.{locals_more}
+use Rattle.image_rows.specs.Blobs.{value_or}
+use Rattle.image_rows.specs.Cells.{rows, at}
+use Rattle.image_files.specs.Counts.{too_many, capped, local_count, all_locals}
+use Rattle.image_files.specs.Signatures.{listed, locals_by, locals_in, locals_before}
+use Rattle.image_files.proofs.LocalsCount.{locals_more}
 
 -- ---- counts that stop
 
@@ -34,6 +33,18 @@ capped_sum a b x y a_is b_is =
       ]
       | inr x_many ↦ stops (a + b) (omega (arith, a_is, stops x x_many)) ∙ sym (stops (x + y) (omega arith))
     ]
+
+-- ---- lists that are read and lists that are counted
+
+pub counted_some : {X : Type 0} (held : Result (List X) ℕ) (n : ℕ) → Ok n ≡ counted held → length (value_or [] held) ≡ n
+counted_some (Ok xs) n e = cc
+counted_some (Err place) n e = absurd cc
+
+pub counted_none : {X : Type 0} (held : Result (List X) ℕ) (fault : SigFault) → Err fault ≡ counted held → length (value_or [] held) ≡ 0
+counted_none (Ok xs) fault e = absurd cc
+counted_none (Err place) fault e = refl
+
+pub ruleset counted_list = (counted_some, counted_none)
 
 -- ---- local variables
 

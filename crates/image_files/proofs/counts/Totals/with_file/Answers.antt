@@ -1,10 +1,10 @@
 use Rattle.std.proofs.Common.{arith}
-use Rattle.world_build.specs.Counts.{all_locals}
-use Rattle.world_build.specs.Signatures.{locals_before}
+use Rattle.image_files.specs.Counts.{all_locals}
+use Rattle.image_files.specs.Signatures.{locals_before}
 use Rattle.image_rows.specs.Cells.{rows}
-use Rattle.world_build.proofs.Counted.{capped_few}
-use Rattle.world_build.proofs.FewEnough.{are_below, as_few, as_many}
-use Rattle.world_build.proofs.counts.Totals.with_file.Goals as goal
+use Rattle.image_files.proofs.Counted.{capped_few}
+use Rattle.image_files.proofs.FewEnough.{are_below, as_few, as_many}
+use Rattle.image_files.proofs.counts.Totals.with_file.Goals as goal
 
 pub overflow_add-result : goal.overflow_add-result
 overflow_add-result c = let before = are_below c.args.self c.requires in omega arith

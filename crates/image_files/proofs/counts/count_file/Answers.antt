@@ -2,11 +2,11 @@ use Rattle.std.proofs.Common.{◌≡◌, true, [], ◌∷◌, sym, ap₂, ◌∙
 use Rattle.std.proofs.lemmas.Result.{err_from_is_err_and}
 use Rattle.clr_base.specs.Checks.{check, first_fault}
 use Rattle.clr_base.specs.declared.image_fault.FaultKind.TheVariants.{TooMany}
-use Rattle.world_build.specs.Counts.{are_few, with_file}
-use Rattle.world_build.proofs.FewEnough.{count_passes, count_fails}
+use Rattle.image_files.specs.Counts.{are_few, with_file}
+use Rattle.image_files.proofs.FewEnough.{count_passes, count_fails}
 use Rattle.image_rows.proofs.Giving.{gives_fault}
 use Rattle.image_rows.proofs.Passing.{one_passes}
-use Rattle.world_build.proofs.counts.count_file.Goals as goal
+use Rattle.image_files.proofs.counts.count_file.Goals as goal
 
 pub returns-in_err-check-clause-exact : goal.returns-in_err-check-clause-exact
 returns-in_err-check-clause-exact c =

@@ -1,16 +1,18 @@
 //! How many definitions, methods, fields and signatures files give a world, and whether tokens can number them.
 ghost use Rattle.std.specs.Prelude.{◌≡◌, [], true, IfOk, OnOk};
 ghost use Rattle.clr_base.specs.Checks.{outcome};
-ghost use Rattle.world_build.specs.Counts as spec;
+ghost use Rattle.image_files.specs.Counts as spec;
 ghost use Rattle.image_rows.specs.Refusals.{GivesOutcome};
 ghost use Rattle.image_rows.specs.SignatureChecks.{AreNotes};
 
-use crate::local_signatures::locals_by;
-use crate::row_signatures::row_sigs;
+use crate::signatures::row_sigs;
+use cli_sigs::count_locals;
 use cli_tables::Tables;
-use clr_base::{FaultKind, Memory, check};
-use core_types::{DEF_COUNT, METHOD_COUNT};
-use image_rows::{FIELD, METHOD_DEF, Refusal, STAND_ALONE_SIG, TYPE_DEF, token};
+use clr_base::{CORE_DEF_COUNT, CORE_METHOD_COUNT, CORE_SIG_COUNT, FaultKind, Memory, check};
+use image_rows::{
+    FIELD, LOCALS_CODE, METHOD_DEF, Refusal, STAND_ALONE_SIG, TYPE_DEF, begins_with, blob_by,
+    row_counts, token,
+};
 use indexmap::IndexMap;
 use std::alloc::Global;
 
@@ -26,10 +28,23 @@ pub struct Totals {
     pub sigs: u32,
 }
 
-/// How many local variables the blob at an index lists, up to one too many. They are counted where that isn't noted yet.
-#[tactic(auto, unfolding(crate::specs::Counts::local_count))]
+/// How many local variables the blob at an index lists, up to one too many.
+#[tactic(auto, unfolding(crate::specs::Counts::local_count, crate::specs::Signatures::locals_by), using(crate::proofs::Counted::counted_list))]
+fn count_by(tables: &Tables<'_>, index: u32) -> u32
+    ensures { result ≡ spec.local_count tables.now index }
+{
+    let blob = blob_by(tables, index);
+    if !begins_with(LOCALS_CODE, blob) {
+        return 0;
+    }
+    match count_locals(blob, &row_counts(tables)) {
+        Ok(count) => count.min(MOST + 1),
+        Err(_) => 0,
+    }
+}
+
+/// The same, by its note where there is one.
 fn local_count(
-    alloc: Global,
     tables: &Tables<'_>,
     noted: &mut IndexMap<u32, u32>,
     index: u32,
@@ -41,11 +56,7 @@ fn local_count(
     if let Some(count) = noted.get(&index) {
         return Ok(*count);
     }
-    let len = match locals_by(alloc, tables, index)? {
-        Some(locals) => locals.len(),
-        None => 0,
-    };
-    let count = len.min(MOST as usize + 1) as u32;
+    let count = count_by(tables, index);
     noted.insert(index, count)?;
     Ok(count)
 }
@@ -59,7 +70,7 @@ fn all_locals(alloc: Global, tables: &Tables<'_>) -> Result<u32, Memory>
     let mut total = 0;
     for row in 0..tables.row_count(STAND_ALONE_SIG) {
         let index = tables.cell(STAND_ALONE_SIG, row + 1, 0);
-        let count = local_count(alloc, tables, &mut noted, index)?;
+        let count = local_count(tables, &mut noted, index)?;
         total = (total + count).min(MOST + 1);
     }
     Ok(total)
@@ -73,10 +84,10 @@ impl Totals {
         ensures few { spec.are_few result ≡ true }
     {
         Totals {
-            defs: DEF_COUNT as u32,
-            methods: METHOD_COUNT as u32,
+            defs: CORE_DEF_COUNT,
+            methods: CORE_METHOD_COUNT,
             fields: 0,
-            sigs: 3,
+            sigs: CORE_SIG_COUNT,
         }
     }
 

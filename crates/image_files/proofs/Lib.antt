@@ -1,0 +1,4 @@
+pub mod Counted
+pub mod FewEnough
+pub mod LocalsCount
+pub mod ManyImages
