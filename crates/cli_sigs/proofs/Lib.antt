@@ -1,7 +1,8 @@
 pub mod Levels
+pub mod ReaderLaws
 pub mod Repeats
 pub mod MarkRuns
-pub mod ReaderLaws
+pub mod Skipping
 pub mod Numbers
 pub mod Each
 pub mod Marked

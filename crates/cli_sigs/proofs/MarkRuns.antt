@@ -4,7 +4,7 @@ use Rattle.cli_sigs.specs.declared.fault.Stop.{Stop}
 use Rattle.cli_sigs.specs.declared.fault.Stop.TheVariants as stop
 use Rattle.cli_sigs.specs.declared.marks.Before.{Before}
 use Rattle.cli_sigs.specs.declared.signature.RowCounts.{RowCounts}
-use Rattle.cli_sigs.specs.Reading.{Answer, Fails}
+use Rattle.cli_sigs.specs.Reading.{Answer, Stops}
 use Rattle.cli_sigs.specs.Marks.{mark_at, marks_at, past_marks}
 
 -- reading goes on at rest, and gives total; most is no less than the marks that are left
@@ -40,6 +40,6 @@ module _ (counts : RowCounts) (what : Before) where
   fails_from zero (code ∷ rest) total left enough same h = absurd (omega arith)
   fails_from (suc most) rest total left enough same h = sym (rw h at same)
 
-  pub fails : (e : Stop) (rest : List ℕ) (total : Answer (List ℕ)) → IsLeft counts what rest total → Fails e (mark_at counts what rest) → Fails e total
-  fails stop.Memory rest total so_far h = tt
+  pub fails : (e : Stop) (rest : List ℕ) (total : Answer (List ℕ)) → IsLeft counts what rest total → Stops e (mark_at counts what rest) → Stops e total
+  fails stop.Memory rest total so_far h = absurd h
   fails (stop.Left left) rest total so_far h = fails_from so_far.most rest total left so_far.enough so_far.same h

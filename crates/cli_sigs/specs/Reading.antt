@@ -29,6 +29,14 @@ unfoldable pub repeated : {X : Type 0} → (List ℕ → Part X) → ℕ → Lis
 repeated one zero bytes = Ok ([], bytes)
 repeated one (suc n) bytes = one bytes >>= λ first. repeated one n first.1 >>= λ others. Ok (first.0 ∷ others.0, others.1)
 
+-- what stands behind a part
+abbrev pub behind : {X : Type 0} → Part X → Answer (List ℕ)
+behind read = read >>= λ x. Ok x.1
+
+-- how many parts there are, in place of the parts
+abbrev pub measured : {X : Type 0} → Part (List X) → Part ℕ
+measured read = read >>= λ x. Ok (length x.0, x.1)
+
 -- What a function returned, seen by view, is what reading gives, unless memory ran out.
 abbrev pub Fails : {Y : Type 0} → Stop → Answer Y → Type 0
 Fails stop.Memory read = Unit {0}
@@ -37,3 +45,12 @@ Fails (stop.Left left) read = read ≡ Err left
 abbrev pub Gives : {X Y : Type 0} → (X → Y) → Result X Stop → Answer Y → Type 0
 Gives view (Ok x) read = read ≡ Ok (view x)
 Gives view (Err e) read = Fails e read
+
+-- The same of a function that takes no memory.
+abbrev pub Stops : {Y : Type 0} → Stop → Answer Y → Type 0
+Stops stop.Memory read = ⊥
+Stops (stop.Left left) read = read ≡ Err left
+
+abbrev pub Finds : {X Y : Type 0} → (X → Y) → Result X Stop → Answer Y → Type 0
+Finds view (Ok x) read = read ≡ Ok (view x)
+Finds view (Err e) read = Stops e read

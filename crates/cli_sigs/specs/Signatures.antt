@@ -58,3 +58,13 @@ Refuses fault.Memory held = Unit {0}
 abbrev pub Answers : {X : Type 0} → Result X SigFault → Result X ℕ → Type 0
 Answers (Ok x) held = held ≡ Ok x
 Answers (Err e) held = Refuses e held
+
+-- A check answers that a value is there, or the fault with its place. It takes no memory.
+abbrev pub checked : {X : Type 0} → Result X ℕ → Result (Unit {0}) SigFault
+checked (Ok x) = Ok (tt {0})
+checked (Err place) = Err (fault.Bad place)
+
+-- the same with how many values there are in place of the values
+abbrev pub counted : {X : Type 0} → Result (List X) ℕ → Result ℕ SigFault
+counted (Ok xs) = Ok (length xs)
+counted (Err place) = Err (fault.Bad place)

@@ -1,6 +1,6 @@
 //! Compressed numbers (II.23.2), and the numbers that name a row.
 ghost use Rattle.std.specs.Prelude.{◌≡◌, ◌<◌, length, IfOk};
-ghost use Rattle.cli_sigs.specs.Reading.{Gives};
+ghost use Rattle.cli_sigs.specs.Reading.{Finds};
 ghost use Rattle.cli_sigs.specs.Compressed as spec;
 
 use crate::fault::Stop;
@@ -8,7 +8,7 @@ use crate::signature::RowCounts;
 
 /// The number at the front, and the bytes after it.
 pub(crate) fn number(bytes: &[u8]) -> Result<(u32, &[u8]), Stop>
-    ensures exact { Gives (λ x. (x.0, x.1.now)) result (spec.number_at bytes.now) }
+    ensures exact { Finds (λ x. (x.0, x.1.now)) result (spec.number_at bytes.now) }
     ensures shorter { IfOk result (λ x. length x.1.now < length bytes.now) }
 {
     match bytes {
@@ -47,7 +47,7 @@ fn names_row(counts: &RowCounts, number: u32) -> bool
 /// The number of a TypeDef or TypeRef at the front.
 #[tactic(auto, unfolding(crate::specs::Compressed::type_name_at))]
 pub(crate) fn type_name<'a>(counts: &RowCounts, bytes: &'a [u8]) -> Result<(u32, &'a [u8]), Stop>
-    ensures { Gives (λ x. (x.0, x.1.now)) result (spec.type_name_at counts.now bytes.now) }
+    ensures { Finds (λ x. (x.0, x.1.now)) result (spec.type_name_at counts.now bytes.now) }
 {
     let (name, rest) = number(bytes)?;
     if names_row(counts, name) && name % 4 != 2 {
@@ -63,7 +63,7 @@ pub(crate) fn modifier_name<'a>(
     counts: &RowCounts,
     bytes: &'a [u8],
 ) -> Result<(u32, &'a [u8]), Stop>
-    ensures exact { Gives (λ x. (x.0, x.1.now)) result (spec.modifier_name_at counts.now bytes.now) }
+    ensures exact { Finds (λ x. (x.0, x.1.now)) result (spec.modifier_name_at counts.now bytes.now) }
     ensures shorter { IfOk result (λ x. length x.1.now < length bytes.now) }
 {
     let (name, rest) = number(bytes)?;
@@ -77,7 +77,7 @@ pub(crate) fn modifier_name<'a>(
 /// The number of a generic parameter at the front.
 #[tactic(auto, unfolding(crate::specs::Compressed::variable_at))]
 pub(crate) fn variable(bytes: &[u8]) -> Result<(u32, &[u8]), Stop>
-    ensures { Gives (λ x. (x.0, x.1.now)) result (spec.variable_at bytes.now) }
+    ensures { Finds (λ x. (x.0, x.1.now)) result (spec.variable_at bytes.now) }
 {
     let (variable, rest) = number(bytes)?;
     if variable <= 65_535 {
@@ -90,7 +90,7 @@ pub(crate) fn variable(bytes: &[u8]) -> Result<(u32, &[u8]), Stop>
 /// A count of at least one argument at the front.
 #[tactic(auto, unfolding(crate::specs::Compressed::argument_count_at))]
 pub(crate) fn argument_count(bytes: &[u8]) -> Result<(u32, &[u8]), Stop>
-    ensures { Gives (λ x. (x.0, x.1.now)) result (spec.argument_count_at bytes.now) }
+    ensures { Finds (λ x. (x.0, x.1.now)) result (spec.argument_count_at bytes.now) }
 {
     let (count, rest) = number(bytes)?;
     if 0 < count {

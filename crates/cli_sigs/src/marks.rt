@@ -1,6 +1,6 @@
 //! What may stand before a type, and is skipped.
 ghost use Rattle.std.specs.Prelude.{◌≡◌, ◌<◌, length, option_map, IfOk, IfSome};
-ghost use Rattle.cli_sigs.specs.Reading.{Gives};
+ghost use Rattle.cli_sigs.specs.Reading.{Finds};
 ghost use Rattle.cli_sigs.specs.Marks as spec;
 
 use crate::compressed::modifier_name;
@@ -19,7 +19,7 @@ pub(crate) enum Before {
 /// The bytes after one mark, where one stands.
 #[tactic(auto, unfolding(crate::specs::Marks::mark_at))]
 fn mark<'a>(counts: &RowCounts, what: Before, bytes: &'a [u8]) -> Result<Option<&'a [u8]>, Stop>
-    ensures exact { Gives (option_map (λ rest. rest.now)) result (spec.mark_at counts.now what bytes.now) }
+    ensures exact { Finds (option_map (λ rest. rest.now)) result (spec.mark_at counts.now what bytes.now) }
     ensures shorter { IfOk result (λ o. IfSome o (λ rest. length rest.now < length bytes.now)) }
 {
     match bytes {
@@ -34,7 +34,7 @@ fn mark<'a>(counts: &RowCounts, what: Before, bytes: &'a [u8]) -> Result<Option<
 
 /// The bytes after all marks.
 pub(crate) fn marks<'a>(counts: &RowCounts, what: Before, bytes: &'a [u8]) -> Result<&'a [u8], Stop>
-    ensures { Gives (λ rest. rest.now) result (spec.past_marks counts.now what bytes.now) }
+    ensures { Finds (λ rest. rest.now) result (spec.past_marks counts.now what bytes.now) }
 {
     let mut rest = bytes;
     while let Some(after) = mark(counts, what, rest)? {

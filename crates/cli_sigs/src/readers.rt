@@ -1,6 +1,6 @@
 //! The five readers.
 ghost use Rattle.std.specs.Prelude.{◌≡◌, ◌<◌, ◌^◌, List, length, IfOk};
-ghost use Rattle.cli_sigs.specs.Reading.{Gives, Part};
+ghost use Rattle.cli_sigs.specs.Reading.{Finds, Gives, Part};
 ghost use Rattle.cli_sigs.specs.Signatures as spec;
 ghost use Rattle.cli_sigs.specs.Signatures.{Answers};
 ghost use Rattle.cli_sigs.specs.Grammar.{Holds, SpellsField, SpellsMember, SpellsLocals, SpellsTypeSpec, SpellsMethodSpec};
@@ -16,12 +16,12 @@ use sqlite_items::Items;
 use std::alloc::Global;
 
 /// How deep constructors may be nested.
-const MOST_LEVELS: u32 = 64;
+pub(crate) const MOST_LEVELS: u32 = 64;
 
 /// The bytes after the code that says which kind of signature this is.
 #[tactic(auto, unfolding(crate::specs::Signatures::kind_at))]
-fn kind(code: u8, bytes: &[u8]) -> Result<&[u8], Stop>
-    ensures { Gives (λ rest. rest.now) result (spec.kind_at code bytes.now) }
+pub(crate) fn kind(code: u8, bytes: &[u8]) -> Result<&[u8], Stop>
+    ensures { Finds (λ rest. rest.now) result (spec.kind_at code bytes.now) }
 {
     match bytes {
         [first, rest @ ..] if *first == code => Ok(rest),

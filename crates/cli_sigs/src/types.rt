@@ -1,6 +1,6 @@
 //! Types (II.23.2.12), and the methods that a function pointer leads to (II.23.2.1 to II.23.2.3).
 ghost use Rattle.std.specs.Prelude.{◌≡◌, bit_and};
-ghost use Rattle.cli_sigs.specs.Reading.{Gives, repeated};
+ghost use Rattle.cli_sigs.specs.Reading.{Finds, Gives, repeated};
 ghost use Rattle.cli_sigs.specs.Types as spec;
 
 use crate::compressed::{argument_count, number, type_name, variable};
@@ -55,8 +55,8 @@ fn simple_type<'a>(
 
 /// The bytes after a count and that many numbers.
 #[tactic(auto, unfolding(crate::specs::Types::numbers_at))]
-fn numbers(bytes: &[u8]) -> Result<&[u8], Stop>
-    ensures { Gives (λ rest. rest.now) result (spec.numbers_at bytes.now) }
+pub(crate) fn numbers(bytes: &[u8]) -> Result<&[u8], Stop>
+    ensures { Finds (λ rest. rest.now) result (spec.numbers_at bytes.now) }
 {
     let (count, mut rest) = number(bytes)?;
     for _ in 0..count {
@@ -67,8 +67,8 @@ fn numbers(bytes: &[u8]) -> Result<&[u8], Stop>
 
 /// Whether an instantiation is of a value type.
 #[tactic(auto, unfolding(crate::specs::Types::is_value_at))]
-fn is_value(bytes: &[u8]) -> Result<(bool, &[u8]), Stop>
-    ensures { Gives (λ x. (x.0, x.1.now)) result (spec.is_value_at bytes.now) }
+pub(crate) fn is_value(bytes: &[u8]) -> Result<(bool, &[u8]), Stop>
+    ensures { Finds (λ x. (x.0, x.1.now)) result (spec.is_value_at bytes.now) }
 {
     match bytes {
         [0x11, rest @ ..] => Ok((true, rest)),
@@ -91,8 +91,8 @@ fn are_flags(who: Callee, flags: u8) -> bool
 
 /// The flags that a method's signature begins with.
 #[tactic(auto, unfolding(crate::specs::Types::flags_at))]
-fn flags(who: Callee, bytes: &[u8]) -> Result<(u8, &[u8]), Stop>
-    ensures { Gives (λ x. (x.0, x.1.now)) result (spec.flags_at who bytes.now) }
+pub(crate) fn flags(who: Callee, bytes: &[u8]) -> Result<(u8, &[u8]), Stop>
+    ensures { Finds (λ x. (x.0, x.1.now)) result (spec.flags_at who bytes.now) }
 {
     match bytes {
         [flags, rest @ ..] if are_flags(who, *flags) => Ok((*flags, rest)),
@@ -102,8 +102,8 @@ fn flags(who: Callee, bytes: &[u8]) -> Result<(u8, &[u8]), Stop>
 
 /// The number of generic parameters, where the flags say that it stands there.
 #[tactic(auto, unfolding(crate::specs::Types::generic_count_at))]
-fn generic_count(flags: u8, bytes: &[u8]) -> Result<(u32, &[u8]), Stop>
-    ensures { Gives (λ x. (x.0, x.1.now)) result (spec.generic_count_at flags bytes.now) }
+pub(crate) fn generic_count(flags: u8, bytes: &[u8]) -> Result<(u32, &[u8]), Stop>
+    ensures { Finds (λ x. (x.0, x.1.now)) result (spec.generic_count_at flags bytes.now) }
 {
     if flags & 0x10 == 0 {
         Ok((0, bytes))
@@ -114,7 +114,7 @@ fn generic_count(flags: u8, bytes: &[u8]) -> Result<(u32, &[u8]), Stop>
 
 /// The bytes after the mark that the variable arguments begin, where it stands.
 #[tactic(auto, unfolding(crate::specs::Types::past_sentinel))]
-fn past_sentinel(bytes: &[u8]) -> &[u8]
+pub(crate) fn past_sentinel(bytes: &[u8]) -> &[u8]
     ensures { result.now ≡ spec.past_sentinel bytes.now }
 {
     match bytes {

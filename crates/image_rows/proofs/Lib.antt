@@ -1,3 +1,5 @@
+pub mod Bits
+pub mod ByColumn
 pub mod Enclosing
 pub mod FullTypeNames
 pub mod Giving

@@ -20,7 +20,7 @@ last_passes : (r s : Result (Unit {0}) ImageFault) → after r s ≡ Ok (tt {0})
 last_passes (Ok x) s e = e
 last_passes (Err f) s e = cc
 
-below_or_last : (k n : ℕ) → k < suc n → (k < n) ⊎ (k ≡ n)
+pub below_or_last : (k n : ℕ) → k < suc n → (k < n) ⊎ (k ≡ n)
 below_or_last k n h = grind arith
 
 -- each number below n passes

@@ -1,5 +1,5 @@
 -- The checks of signatures, column by column.
-use Rattle.std.proofs.Common.{◌≡◌, ℕ, zero, suc, ◌+◌, ◌<◌, Bool, List, [], ◌++◌, ◌∷◌, length, take, drop, Ok, Err, sym, ap, ap₂, ◌∙◌, arith, get_or}
+use Rattle.std.proofs.Common.{◌≡◌, ℕ, zero, suc, ◌+◌, ◌<◌, Bool, List, [], ◌++◌, ◌∷◌, length, take, drop, Result, Ok, Err, is_ok, refl, sym, ap, ap₂, ◌∙◌, arith, get_or}
 use Rattle.std.specs.List.{flat_map}
 use Rattle.std.proofs.lemmas.Grind.{flat_map-append}
 use Rattle.std.proofs.lemmas.List.{drop_more, take_more, take-append-drop}
@@ -8,6 +8,7 @@ use Rattle.clr_base.specs.declared.image_fault.ImageFault.{ImageFault}
 use Rattle.clr_base.specs.declared.image_fault.FaultKind.TheVariants.{BadSignature}
 use Rattle.clr_base.specs.Checks.{Check, check, first_fault}
 use Rattle.clr_base.proofs.Checks.{outcome_failed, outcome_passed}
+use Rattle.cli_sigs.specs.Signatures.{checked, counted}
 use Rattle.cli_tables.specs.Metadata.{Metadata}
 use Rattle.cli_tables.specs.Schema.{columns}
 use Rattle.image_rows.specs.declared.signature_checks.SigColumn.{SigColumn}
@@ -50,6 +51,19 @@ columns_are_there (suc (suc (suc (suc (suc (suc k)))))) d within = absurd (omega
 
 pub no_notes : {V S : Type 0} (of : ℕ → V) (noted : IndexMap ℕ V S) → noted.entries ≡ [] → AreNotes of noted
 no_notes of noted empty = record { each = λ index. rw empty tt }
+
+-- ---- one blob
+
+-- a check passes where something is read, and so does a count
+pub checked_is : {X : Type 0} (held : Result X ℕ) → is_ok (checked held) ≡ is_ok held
+checked_is (Ok x) = refl
+checked_is (Err place) = refl
+
+pub counted_is : {X : Type 0} (held : Result (List X) ℕ) → is_ok (counted held) ≡ is_ok held
+counted_is (Ok xs) = refl
+counted_is (Err place) = refl
+
+pub ruleset read_or_not = (checked_is, counted_is)
 
 -- ---- rows
 

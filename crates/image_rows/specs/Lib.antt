@@ -1,5 +1,7 @@
+pub mod BitNotes
 pub mod Blobs
 pub mod Cells
+pub mod Columns
 pub mod Image
 pub mod Nesting
 pub mod Refusals

@@ -24,7 +24,9 @@ const NAMESPACE: u8 = 2;
 pub(crate) fn qualified(alloc: Global, namespace: &str, name: &str) -> Result<Text, Memory>
     ensures { IfOk result (λ text. text ≡ spec.qualified namespace.now name.now) }
 {
-    let mut text = Text::from_str(alloc, namespace)?;
+    let room = namespace.len().saturating_add(1).saturating_add(name.len());
+    let mut text = Text::with_capacity(alloc, room)?;
+    text.push_str(namespace)?;
     if !namespace.is_empty() {
         text.push_str(".")?;
     }
@@ -39,6 +41,17 @@ pub(crate) fn push_nested(text: &mut Text, name: &str) -> Result<(), Memory>
     text.push_str("+")?;
     text.push_str(name)?;
     Ok(())
+}
+
+/// The name of a type behind that of the type that it stands in.
+fn nested(alloc: Global, around: &str, name: &str) -> Result<Text, Memory>
+    ensures { IfOk result (λ text. text ≡ around.now ++ codes "+" ++ name.now) }
+{
+    let room = around.len().saturating_add(1).saturating_add(name.len());
+    let mut text = Text::with_capacity(alloc, room)?;
+    text.push_str(around)?;
+    push_nested(&mut text, name)?;
+    Ok(text)
 }
 
 /// The full name of the definition in a row, by those of the definitions before it. `outer` is the row of the definition
@@ -61,8 +74,7 @@ fn full_name(
     if outer == 0 {
         return qualified(alloc, text(tables, TYPE_DEF, row, NAMESPACE), name);
     }
-    let mut full = Text::from_str(alloc, before[outer as usize - 1].as_str())?;
-    push_nested(&mut full, name)?;
+    let full = nested(alloc, before[outer as usize - 1].as_str(), name)?;
     Ok(full)
 }
 

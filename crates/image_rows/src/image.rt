@@ -1,5 +1,5 @@
 //! A whole file.
-ghost use Rattle.std.specs.Prelude.{◌≡◌, ◌+◌, ◌≤◌, length, slice_range, IfOk};
+ghost use Rattle.std.specs.Prelude.{◌≡◌, ◌+◌, ◌≤◌, length, slice_range, IfOk, IsErrOf, IsOk};
 ghost use Rattle.image_rows.specs.Image.{image_of, tables_of};
 ghost use Rattle.image_rows.specs.Refusals.{GivesOutcome};
 ghost use Rattle.image_rows.specs.Rows.{ArePassed};
@@ -32,9 +32,10 @@ pub fn read_tables(bytes: &[u8]) -> Result<Tables<'_>, ImageFault>
 }
 
 /// The metadata of a file that passes all its checks, or the first fault. Takes the memory that the checks of rows
-/// and of signatures take.
+/// and of signatures take, so that want of memory hides no fault of headers, streams or tables.
 pub fn read_image(alloc: Global, bytes: &[u8]) -> Result<Tables<'_>, Refusal>
     ensures exact { GivesOutcome result (image_of bytes.now) }
+    ensures memory { IsErrOf result Refusal.Memory → IsOk (tables_of bytes.now) }
     ensures rows { IfOk result (λ m. ArePassed m) }
     ensures signatures { IfOk result (λ m. AreSigned m) }
 {

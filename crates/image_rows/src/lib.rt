@@ -1,8 +1,10 @@
 //! One file: the checks of its rows and signatures behind those of its headers and tables, and what rows that pass them say.
 #![tactic(auto)]
 
+mod bit_notes;
 mod blobs;
 mod cells;
+mod columns;
 mod definition_names;
 mod image;
 mod laws;

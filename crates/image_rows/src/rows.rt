@@ -8,6 +8,7 @@ ghost use Rattle.cli_tables.specs.TextFaults.{AreTextFaults};
 ghost use Rattle.image_rows.specs.Refusals.{Gives};
 ghost use Rattle.image_rows.specs.Rows as spec;
 
+use crate::columns::columns_pass;
 use crate::refusal::Refusal;
 use crate::row_rules::{check_generic_params, check_nested_classes};
 use crate::table_numbers::{GENERIC_PARAM, NESTED_CLASS, TYPE_DEF, TYPE_REF};
@@ -31,7 +32,7 @@ pub fn token(table: u8, row: u32) -> u64
 
 /// A column that has the index of a text.
 #[tactic(auto, unfolding(crate::specs::Rows::text_checks))]
-fn check_text(
+pub fn check_text(
     tables: &Tables<'_>,
     texts: &TextFaults,
     index: u32,
@@ -48,7 +49,7 @@ fn check_text(
 
 /// Whether a table has that row.
 #[tactic(auto, unfolding(crate::specs::Rows::is_row))]
-fn is_row(tables: &Tables<'_>, table: u8, row: u32) -> bool
+pub fn is_row(tables: &Tables<'_>, table: u8, row: u32) -> bool
     ensures { result ≡ spec.is_row tables.now table row }
 {
     1 <= row && row <= tables.row_count(table)
@@ -56,7 +57,7 @@ fn is_row(tables: &Tables<'_>, table: u8, row: u32) -> bool
 
 /// Whether a run may begin there in a table, where the run before it begins at `before`.
 #[tactic(auto, unfolding(crate::specs::Rows::is_run))]
-fn is_run(tables: &Tables<'_>, table: u8, before: u32, first: u32) -> bool
+pub fn is_run(tables: &Tables<'_>, table: u8, before: u32, first: u32) -> bool
     ensures { result ≡ spec.is_run tables.now table before first }
 {
     1 <= first && first <= tables.row_count(table) + 1 && before <= first
@@ -64,7 +65,7 @@ fn is_run(tables: &Tables<'_>, table: u8, before: u32, first: u32) -> bool
 
 /// Whether a coded index names a row, or none where it may.
 #[tactic(auto, unfolding(crate::specs::Rows::is_coded))]
-fn is_coded(tables: &Tables<'_>, may_be_null: bool, coded: CodedIndex, value: u32) -> bool
+pub fn is_coded(tables: &Tables<'_>, may_be_null: bool, coded: CodedIndex, value: u32) -> bool
     ensures { result ≡ spec.is_coded tables.now may_be_null coded value }
 {
     let bits = coded.tag_bits();
@@ -78,7 +79,7 @@ fn is_coded(tables: &Tables<'_>, may_be_null: bool, coded: CodedIndex, value: u3
 
 /// Whether a column may name no row: what a type extends, and where a reference is resolved.
 #[tactic(auto, unfolding(crate::specs::Rows::may_be_null))]
-fn may_be_null(table: u8, column: u8) -> bool
+pub fn may_be_null(table: u8, column: u8) -> bool
     ensures { result ≡ spec.may_be_null table column }
 {
     (table == TYPE_DEF && column == 3) || (table == TYPE_REF && column == 0)
@@ -86,7 +87,7 @@ fn may_be_null(table: u8, column: u8) -> bool
 
 /// The cell in the row before, 0 before the first row.
 #[tactic(auto, unfolding(crate::specs::Rows::cell_before))]
-fn cell_before(tables: &Tables<'_>, table: u8, row: u32, column: u8) -> u32
+pub fn cell_before(tables: &Tables<'_>, table: u8, row: u32, column: u8) -> u32
     requires { IsCell tables.now.tables table row column }
     ensures { result ≡ spec.cell_before tables.now table row column }
 {
@@ -168,7 +169,8 @@ pub fn check_columns(
     Ok(())
 }
 
-/// The rows of a table that has no rule for whole rows.
+/// The rows of a table that has no rule for whole rows. They are gone over column by column, and row by row only where one
+/// doesn't pass.
 #[tactic(auto, unfolding(crate::specs::Rows::table_checks), using(clr_base::proofs::Checks::each_none, clr_base::proofs::Checks::each_passed, clr_base::proofs::Checks::each_failed))]
 fn check_plain_table(tables: &Tables<'_>, texts: &TextFaults, table: u8) -> Result<(), ImageFault>
     requires texts { AreTextFaults tables.now.strings texts.now }
@@ -176,6 +178,9 @@ fn check_plain_table(tables: &Tables<'_>, texts: &TextFaults, table: u8) -> Resu
     requires not_generic { table ≢ 0x2a }
     ensures { result ≡ first_fault (spec.table_checks tables.now table) }
 {
+    if columns_pass(tables, texts, table) {
+        return Ok(());
+    }
     for row in 0..tables.row_count(table) {
         check_columns(tables, texts, table, row + 1)?;
     }

@@ -1,22 +1,22 @@
 //! The checks of a file's signatures, in order (ECMA-335 II.23.2).
-ghost use Rattle.std.specs.Prelude.{◌≡◌, ◌<◌, ◌^◌, ℕ, Result, is_ok, length, IfOk, OnOk};
-ghost use Rattle.cli_sigs.specs.Signatures.{Answers};
+ghost use Rattle.std.specs.Prelude.{◌≡◌, ◌<◌, ◌^◌, length, IfOk, OnOk};
 ghost use Rattle.cli_tables.specs.Schema.{columns};
+ghost use Rattle.image_rows.specs.Blobs as blobs;
+ghost use Rattle.image_rows.specs.BitNotes.{HavePassed};
 ghost use Rattle.image_rows.specs.Refusals.{Gives};
 ghost use Rattle.image_rows.specs.SignatureChecks as spec;
-ghost use Rattle.image_rows.specs.SignatureChecks.{AreNotes};
 
+use crate::bit_notes::{is_noted, note};
 use crate::blobs::{FIELD_CODE, LOCALS_CODE, begins_with, row_counts};
 use crate::cells::blob_by;
 use crate::refusal::Refusal;
 use crate::rows::token;
 use cli_sigs::{
-    RowCounts, SigFault, read_field, read_locals, read_method, read_method_spec, read_type_spec,
+    RowCounts, check_field, check_method, check_method_spec, check_type_spec, count_locals,
 };
 use cli_tables::Tables;
-use clr_base::{FaultKind, Memory, check};
-use indexmap::IndexMap;
-use std::alloc::Global;
+use clr_base::{FaultKind, check};
+use std::alloc::{AllocError, Global};
 
 /// What signature stands in a column.
 #[derive(Clone, Copy)]
@@ -75,62 +75,47 @@ pub const SIG_COLUMNS: [SigColumn; 6] = [
     },
 ];
 
-/// Whether a blob was read as a signature.
-fn is_read<T: Drop>(read: Result<T, SigFault>) -> Result<bool, Memory>
-    ensures { (held : Result T ℕ) → Answers read held → IfOk result (λ good. good ≡ is_ok held) }
-{
-    match read {
-        Ok(_) => Ok(true),
-        Err(SigFault::Bad(_)) => Ok(false),
-        Err(SigFault::Memory) => Err(Memory),
-    }
-}
-
 /// Whether a blob is a signature of a kind.
-#[tactic(auto, unfolding(crate::specs::SignatureChecks::is_signature))]
-fn is_signature(
-    alloc: Global,
-    counts: &RowCounts,
-    kind: SigKind,
-    blob: &[u8],
-) -> Result<bool, Memory>
+#[tactic(auto, unfolding(crate::specs::SignatureChecks::is_signature), using(crate::proofs::Signed::read_or_not))]
+fn is_signature(counts: &RowCounts, kind: SigKind, blob: &[u8]) -> bool
     requires { length blob.now < 2 ^ 32 }
-    ensures { IfOk result (λ good. good ≡ spec.is_signature counts.now kind blob.now) }
+    ensures { result ≡ spec.is_signature counts.now kind blob.now }
 {
     match kind {
-        SigKind::Field => is_read(read_field(alloc, blob, counts)),
-        SigKind::Method => is_read(read_method(alloc, blob, counts)),
-        SigKind::Member if begins_with(FIELD_CODE, blob) => {
-            is_read(read_field(alloc, blob, counts))
-        }
-        SigKind::Member => is_read(read_method(alloc, blob, counts)),
-        SigKind::Locals if begins_with(LOCALS_CODE, blob) => {
-            is_read(read_locals(alloc, blob, counts))
-        }
-        SigKind::Locals => Ok(true),
-        SigKind::Type => is_read(read_type_spec(alloc, blob, counts)),
-        SigKind::Arguments => is_read(read_method_spec(alloc, blob, counts)),
+        SigKind::Field => check_field(blob, counts).is_ok(),
+        SigKind::Method => check_method(blob, counts).is_ok(),
+        SigKind::Member if begins_with(FIELD_CODE, blob) => check_field(blob, counts).is_ok(),
+        SigKind::Member => check_method(blob, counts).is_ok(),
+        SigKind::Locals if begins_with(LOCALS_CODE, blob) => count_locals(blob, counts).is_ok(),
+        SigKind::Locals => true,
+        SigKind::Type => check_type_spec(blob, counts).is_ok(),
+        SigKind::Arguments => check_method_spec(blob, counts).is_ok(),
     }
 }
 
-/// Whether the blob at an index is a signature of a kind. It is read where that isn't noted yet.
+/// Whether the blob at an index is a signature of a kind. It is checked where the index isn't noted yet. An empty blob isn't
+/// noted, so that notes reach no further than the heap.
 #[tactic(auto, unfolding(crate::specs::SignatureChecks::is_signature_by))]
 fn is_signature_by(
-    alloc: Global,
     tables: &Tables<'_>,
+    counts: &RowCounts,
     kind: SigKind,
-    noted: &mut IndexMap<u32, bool>,
+    noted: &mut Vec<u8>,
     index: u32,
-) -> Result<bool, Memory>
-    requires { AreNotes (spec.is_signature_by tables.now kind) noted.old }
+) -> Result<bool, AllocError>
+    requires counts { counts.now ≡ blobs.row_counts tables.now }
+    requires noted { HavePassed (spec.is_signature_by tables.now kind) noted.old.items }
     ensures exact { IfOk result (λ good. good ≡ spec.is_signature_by tables.now kind index) }
-    ensures noted { OnOk result (AreNotes (spec.is_signature_by tables.now kind) noted.new) }
+    ensures noted { OnOk result (HavePassed (spec.is_signature_by tables.now kind) noted.new.items) }
 {
-    if let Some(good) = noted.get(&index) {
-        return Ok(*good);
+    if is_noted(noted, index) {
+        return Ok(true);
     }
-    let good = is_signature(alloc, &row_counts(tables), kind, blob_by(tables, index))?;
-    noted.insert(index, good)?;
+    let blob = blob_by(tables, index);
+    let good = is_signature(counts, kind, blob);
+    if good && !blob.is_empty() {
+        note(noted, index)?;
+    }
     Ok(good)
 }
 
@@ -140,18 +125,19 @@ fn check_column(alloc: Global, tables: &Tables<'_>, column: SigColumn) -> Result
     requires { column.column < length (columns column.table) }
     ensures { Gives result (spec.column_signature_checks tables.now column) }
 {
-    let mut noted = IndexMap::new(alloc);
+    let counts = row_counts(tables);
+    let mut noted = Vec::new(alloc);
     for row in 0..tables.row_count(column.table) {
         let index = tables.cell(column.table, row + 1, column.column);
-        let good = is_signature_by(alloc, tables, column.kind, &mut noted, index)?;
+        let good = is_signature_by(tables, &counts, column.kind, &mut noted, index)?;
         let place = token(column.table, row + 1);
         check(good, FaultKind::BadSignature, place)?;
     }
     Ok(())
 }
 
-/// All signatures of a file. The fault is the first that they have. Takes memory for a note of each blob of one column at a
-/// time, and time in the rows and in the length of the blobs.
+/// All signatures of a file. The fault is the first that they have. Takes memory for at most two bits for each byte of
+/// `#Blob`, and time in the rows and in the length of the blobs.
 #[tactic(auto, unfolding(crate::specs::SignatureChecks::signature_checks))]
 pub fn check_signatures(alloc: Global, tables: &Tables<'_>) -> Result<(), Refusal>
     ensures { Gives result (spec.signature_checks tables.now) }

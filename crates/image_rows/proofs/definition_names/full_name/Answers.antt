@@ -12,7 +12,7 @@ bounds-before-outer c = outer_inside c.args.tables.now c.args.row c.args.outer c
 
 pub returns : goal.returns
 returns c =
-    made_nested c.args.tables.now c.args.row c.args.outer c.in_ok-full.full c.text-name.result.now c.push_nested.new.text c.requires.outer c.if-outer-eq0.false
-    (c.in_ok-full.ensures ∙ c.as_str.ensures ∙ c.index-before-outer.is
+    made_nested c.args.tables.now c.args.row c.args.outer c.as_str.result.now c.text-name.result.now c.in_ok-full.full c.requires.outer c.if-outer-eq0.false
+    (c.as_str.ensures ∙ c.index-before-outer.is
     ∙ outer_listed c.args.tables.now c.args.row c.args.outer _ c.args.before.now c.requires.outer c.if-outer-eq0.false c.requires.before)
-    c.text-name.ensures c.in_ok-push_nested.ensures
+    c.text-name.ensures c.in_ok-full.ensures

@@ -3,6 +3,7 @@ use Rattle.std.proofs.lemmas.Result.{err_from_is_err_and}
 use Rattle.clr_base.proofs.Checks.{each_passed}
 use Rattle.cli_tables.specs.Layout.{row_count}
 use Rattle.image_rows.specs.Rows.{row_checks}
+use Rattle.image_rows.proofs.ByColumn.{table_passes}
 use Rattle.image_rows.proofs.Passing.{table_failed, row_passes, columns_fail, no_rule}
 use Rattle.image_rows.proofs.rows.check_plain_table.Goals as goal
 
@@ -19,3 +20,6 @@ loop-row-preserved c =
     let m = c.args.tables.now in
     each_passed c.loop-row.row (λ r. row_checks m c.args.table (r + 1)) c.loop-row.invariant
     (row_passes m c.args.table (c.loop-row.row + 1) (sym c.in_ok-check_columns.ensures) (no_rule m c.args.table (c.loop-row.row + 1) c.requires.not_nested c.requires.not_generic))
+
+pub returns-then-columns_pass : goal.returns-then-columns_pass
+returns-then-columns_pass c = sym (table_passes c.args.tables.now c.args.table c.requires.not_nested c.requires.not_generic (c.columns_pass.ensures c.if-columns_pass.true))

@@ -3,12 +3,13 @@ use Rattle.std.proofs.lemmas.Result.{err_from_is_err_and}
 use Rattle.clr_base.proofs.Checks.{each_none, each_passed, each_failed}
 use Rattle.cli_tables.specs.Layout.{row_count}
 use Rattle.image_rows.specs.SignatureChecks.{row_signature_checks, column_signature_checks}
+use Rattle.image_rows.proofs.Bits.{nothing_noted}
 use Rattle.image_rows.proofs.Giving.{gives_fault}
-use Rattle.image_rows.proofs.Signed.{no_notes, row_check}
+use Rattle.image_rows.proofs.Signed.{row_check}
 use Rattle.image_rows.proofs.signature_checks.check_column.Goals as goal
 
 pub loop-row-init : goal.loop-row-init
-loop-row-init c = record { passed = each_none (λ r. row_signature_checks c.args.tables.now c.args.column (r + 1)); noted = no_notes _ _ c.new-noted.ensures.empty }
+loop-row-init c = record { passed = each_none (λ r. row_signature_checks c.args.tables.now c.args.column (r + 1)); noted = nothing_noted _ _ c.new-noted.ensures.items }
 
 pub returns-in_err-check : goal.returns-in_err-check
 unfolding column_signature_checks
