@@ -1,5 +1,6 @@
 pub mod Bounds
 pub mod CanonLemmas
+pub mod FitsLemmas
 pub mod Folds
 pub mod GrammarLemmas
 pub mod ListLoop

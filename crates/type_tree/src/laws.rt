@@ -1,13 +1,19 @@
-//! Laws of substitution, of the canonical form and of texts. Each is a function that does nothing and whose
+//! Laws of substitution, of the canonical form, of keys in contexts and of texts. Each is a function that does nothing and whose
 //! clause is the law.
 
-ghost use Rattle.std.specs.Prelude.{◌≡◌, ◌↔◌, ◌≤◌, ℕ, List, [], IsTrue};
+ghost use Rattle.std.specs.Prelude.{◌≡◌, ◌↔◌, ◌≤◌, ℕ, List, [], Some, IsTrue};
+ghost use Rattle.std.specs.Option.{option_copied};
 ghost use Rattle.type_tree.specs.Canon as canon;
+ghost use Rattle.type_tree.specs.Context.{key_of};
+ghost use Rattle.type_tree.specs.Fits.{all_fit, key_fits};
 ghost use Rattle.type_tree.specs.Measure.{depth};
+ghost use Rattle.type_tree.specs.Whole.{counts as counts_of};
+ghost use Rattle.type_tree.specs.declared.tree.Key.{Key as KeyOf};
 ghost use Rattle.type_tree.specs.ReadTexts as read;
 ghost use Rattle.type_tree.specs.Subst as spec;
 ghost use Rattle.type_tree.specs.Texts as texts;
 
+use crate::counts::Counts;
 use crate::tree::{Key, Ty, TyList};
 use crate::world::World;
 
@@ -43,6 +49,29 @@ pub fn shared_form_of_substituted(_world: &World, _t: &Ty, _types: &TyList, _met
     ensures { canon.shared_form _world.now (spec.subst_ty _types.now _methods.now _t.now)
         ≡ canon.shared_form _world.now
         (spec.subst_ty (canon.shared_forms _world.now _types.now) (canon.shared_forms _world.now _methods.now) _t.now) }
+{}
+
+/// A key with arguments put in names things that are there, where the key and the arguments do.
+pub fn substituted_fits(_counts: &Counts, _key: &Key, _types: &TyList, _methods: &TyList)
+    requires key { IsTrue (key_fits _counts.now _key.now) }
+    requires types { IsTrue (all_fit _counts.now _types.now) }
+    requires methods { IsTrue (all_fit _counts.now _methods.now) }
+    ensures { IsTrue (key_fits _counts.now (spec.subst _key.now _types.now _methods.now)) }
+{}
+
+/// The canonical form of a key names things that a world has, where the key does.
+pub fn canonical_form_fits(world: &World, _key: &Key)
+    requires { IsTrue (key_fits (counts_of world.now) _key.now) }
+    ensures { IsTrue (key_fits (counts_of world.now) (canon.canon world.now _key.now)) }
+{
+    world.whole();
+}
+
+/// The key of a context and a signature names things that are there, where both do.
+pub fn key_of_fits(_counts: &Counts, _context: Option<&Key>, _sig: &Key)
+    requires context { (k : KeyOf) → option_copied _context ≡ Some k → IsTrue (key_fits _counts.now k) }
+    requires sig { IsTrue (key_fits _counts.now _sig.now) }
+    ensures { IsTrue (key_fits _counts.now (key_of (option_copied _context.entry) _sig.now)) }
 {}
 
 /// A text names at most one tree.

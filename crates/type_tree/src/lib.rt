@@ -31,8 +31,9 @@ pub use definition::{Def, Field, Formal, Impl, Method};
 pub use equality::{same, same_all, same_key};
 pub use kinds::{is_reference, is_value};
 pub use laws::{
-    canonical_of_canonical, nothing_put_in, one_tree_of_a_text, printed_tree_is_read_back,
-    shared_form_of_substituted, text_of_a_named_tree, two_substitutions,
+    canonical_form_fits, canonical_of_canonical, key_of_fits, nothing_put_in, one_tree_of_a_text,
+    printed_tree_is_read_back, shared_form_of_substituted, substituted_fits, text_of_a_named_tree,
+    two_substitutions,
 };
 pub use measure::{depth, depth_of_all, depth_of_key, weight, weight_of_all, weight_of_key};
 pub use parts::{BodyPlace, Locals, Member, Root, Token, WorldFile, WorldParts};
