@@ -1,5 +1,7 @@
-//! Tests of types: trees that stand once in a pool.
+//! Tests of types: trees that stand once in a pool, and layouts.
 #![tactic(auto)]
 
+#[cfg(test)]
+mod layouts;
 #[cfg(test)]
 mod pools;

@@ -1,0 +1,12 @@
+pub mod Aparts
+pub mod GivenLemmas
+pub mod Lawful
+pub mod LawfulGiven
+pub mod LawfulOwn
+pub mod LawfulRanks
+pub mod Least
+pub mod Orders
+pub mod OwnFacts
+pub mod OwnParts
+pub mod Packing
+pub mod Sweeps
