@@ -1,0 +1,4 @@
+pub mod Meaning
+pub mod Levels
+pub mod Pages
+pub mod Cells
