@@ -1,4 +1,5 @@
 -- What is lent.
+use Rattle.std.specs.Prelude.{Bool, true, false}
 use Rattle.cil_code.specs.declared.body.Body.{Body}
 use Rattle.code_table.specs.declared.lent.Lent.{Lent}
 use Rattle.code_table.specs.declared.lent.Lent.TheVariants.{Kept, Own}
@@ -7,3 +8,8 @@ use Rattle.code_table.specs.declared.lent.Lent.TheVariants.{Kept, Own}
 abbrev pub lent_body : Lent → Body
 lent_body (Kept body) = body.now
 lent_body (Own body) = body
+
+-- whether it is the table's
+abbrev pub is_kept : Lent → Bool
+is_kept (Kept body) = true
+is_kept (Own body) = false

@@ -1,9 +1,9 @@
 //! What a table keeps of a body.
 
-ghost use Rattle.std.specs.Prelude.{◌≡◌, ◌^◌, ◌<◌, length, IfOk, IfErr};
+ghost use Rattle.std.specs.Prelude.{◌≡◌, ◌^◌, ◌<◌, ◌↔◌, length, IfOk, IfErr, IsTrue};
 ghost use Rattle.cil_code.specs.Reading.{Gives};
 ghost use Rattle.cil_code.specs.Decoding.{body_of};
-ghost use Rattle.code_table.specs.Lent.{lent_body};
+ghost use Rattle.code_table.specs.Lent.{lent_body, is_kept};
 
 use crate::lent::Lent;
 use cil_code::{Body, CodeFault, decode};
@@ -35,7 +35,8 @@ pub(crate) fn keep(alloc: Global, bytes: &[u8]) -> Result<Box<Kept>, CodeFault>
 /// The body of these bytes: the kept one where the kept bytes are the same, else one of its own.
 pub(crate) fn lend<'a>(alloc: Global, kept: &'a Kept, bytes: &[u8]) -> Result<Lent<'a>, CodeFault>
     requires { length bytes.now < 2 ^ 32 }
-    ensures { Gives lent_body result (body_of bytes.now) }
+    ensures body { Gives lent_body result (body_of bytes.now) }
+    ensures same { IfOk result (λ lent. IsTrue (is_kept lent) ↔ (kept.now.bytes ≡ bytes.now)) }
 {
     if kept.bytes.as_slice() != bytes {
         return Ok(Lent::Own(decode(alloc, bytes)?));

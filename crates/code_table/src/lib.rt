@@ -3,7 +3,9 @@
 
 mod kept;
 mod lent;
+mod place;
 mod table;
 
 pub use lent::Lent;
+pub use place::Place;
 pub use table::CodeTable;

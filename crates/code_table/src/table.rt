@@ -1,30 +1,18 @@
 //! The table of all bodies of a world.
 
-ghost use Rattle.std.specs.Prelude.{◌≡◌, ◌^◌, ◌<◌, [], length, unwrap_or, IfOk, IsSome};
-ghost use Rattle.std.specs.Option.{ForSome, option_copied};
+ghost use Rattle.std.specs.Prelude.{◌≡◌, ◌<◌, [], None, length, unwrap_or, IfOk, IsSome};
 ghost use Rattle.cil_code.specs.Reading.{Gives};
 ghost use Rattle.cil_code.specs.Decoding.{body_of};
 ghost use Rattle.code_table.specs.Lent.{lent_body};
 ghost use Rattle.code_table.specs.Table.{bytes_of, table_of};
 
-use crate::kept::{Kept, keep, lend};
 use crate::lent::Lent;
+use crate::place::{Place, Slot, slot_of};
 use cil_code::CodeFault;
-use clr_base::{Bytes, Memory, MethId};
-use once_cell::race::OnceBox;
+use clr_base::{Memory, MethId};
 use std::alloc::Global;
 use std::marker::Model;
 use type_tree::World;
-
-/// A method's place in the table.
-#[derive(Drop)]
-struct Slot {
-    /// The bytes of its body; none where it has none.
-    bytes: Option<Bytes>,
-    /// What they are decoded to, from the first call on.
-    kept: OnceBox<Kept>,
-    ghost short: { ForSome bytes (λ b. length b < 2 ^ 32) },
-}
 
 /// The bodies of all methods of a world, each decoded at its first call and kept for all threads. Contracts
 /// see the bytes of each method's body, in the order of the methods.
@@ -41,21 +29,6 @@ impl Model for CodeTable {
     ghost view = { λ t. map (λ s. s.bytes) t.slots.items };
 }
 
-/// The place of a method with these bytes.
-fn slot_of(alloc: Global, bytes: Option<&[u8]>) -> Result<Slot, Memory>
-    requires { ForSome (option_copied bytes) (λ b. length b < 2 ^ 32) }
-    ensures { IfOk result (λ s. s.bytes ≡ option_copied bytes.entry) }
-{
-    let bytes = match bytes {
-        Some(bytes) => Some(Bytes::from_slice(alloc, bytes)?),
-        None => None,
-    };
-    Ok(Slot {
-        bytes,
-        kept: OnceBox::new(alloc),
-    })
-}
-
 impl CodeTable {
     /// The table of a world, with a copy of each body's bytes. Nothing is decoded yet.
     pub fn open(alloc: Global, world: &World) -> Result<CodeTable, Memory>
@@ -69,15 +42,20 @@ impl CodeTable {
         Ok(CodeTable { slots })
     }
 
+    /// The place of a method, of which nothing was learned yet.
+    pub fn place(&self, method: MethId) -> Place<'_>
+        requires { method.0 < length self.now }
+        ensures { result ≡ record { bytes = bytes_of self.now method.0; kept = None } }
+    {
+        Place::of(&self.slots[method.0 as usize])
+    }
+
     /// The body of a method that has one, or its first fault, which `decode` tells. Never waits: threads that
     /// ask at once for a method that nobody asked for may each decode it, and all get the same.
     pub fn body(&self, alloc: Global, method: MethId) -> Result<Lent<'_>, CodeFault>
         requires { IsSome (bytes_of self.now method.0) }
         ensures { Gives lent_body result (body_of (unwrap_or (bytes_of self.now method.0) [])) }
     {
-        let slot = &self.slots[method.0 as usize];
-        let bytes = slot.bytes.as_ref().unwrap().as_slice();
-        let kept = slot.kept.get_or_try_init(|| keep(alloc, bytes))?;
-        lend(alloc, kept, bytes)
+        self.place(method).body(alloc)
     }
 }

@@ -1,5 +1,5 @@
 -- Where an object stands that is noted.
-use Rattle.std.proofs.Common.{rules, ◌≡◌, ℕ, zero, suc, ◌+◌, ◌-◌, ◌*◌, ◌<◌, ◌≤◌, nat_le, ◌++◌, Bool, true, false, IsTrue, List, [], ◌∷◌, length, take, drop, Option, Some, None, is_some, IsSome, slice_get, slice_set, refl, sym, ap, ◌∙◌, arith, length-drop}
+use Rattle.std.proofs.Common.{rules, ◌≡◌, ℕ, zero, suc, ◌+◌, ◌-◌, ◌*◌, ◌≤◌, nat_le, Bool, true, false, List, [], ◌∷◌, length, take, drop, Option, Some, None, is_some, IsSome, slice_get, slice_set, refl, sym, ap, ◌∙◌, arith, length-drop}
 use Rattle.std.specs.Option.{option_map_or}
 use Rattle.std.proofs.lemmas.Bool.{leb-true}
 use Rattle.std.proofs.lemmas.List.{drop-drop, length-take, drop-take, take-append-drop}
@@ -10,7 +10,7 @@ use Rattle.obj_heap.specs.Objects.{Object, put}
 use Rattle.obj_heap.specs.Calls.{object_at, object_set}
 use Rattle.obj_heap.specs.Laying.{object_of, objects_of, are_laid, noted_at, IsLaid}
 use Rattle.obj_heap.proofs.Puts.{take-put, drop-put, take-put_behind, drop-put_before}
-use Rattle.obj_heap.proofs.Laid.{IsFirst, first_is, end_behind}
+use Rattle.obj_heap.proofs.Laid.{first_is, end_behind}
 
 module _ {H : Type 0} where
   -- it begins behind the first word, and ends before the end

@@ -1,14 +1,12 @@
 -- Objects that stand one behind the other in one list of bytes.
-use Rattle.std.proofs.Common.{rules, ◌≡◌, ℕ, zero, suc, ◌+◌, ◌-◌, ◌*◌, ◌<◌, ◌≤◌, ◌==◌, eqb-true, eq-eqb, nat_lt, Bool, true, IsTrue, List, [], ◌∷◌, ◌++◌, length, take, drop, get_or, Some, slice_get, slice_set, refl, sym, ap, ap₂, ◌∙◌, arith, length-append, length-drop}
+use Rattle.std.proofs.Common.{◌≡◌, ℕ, suc, ◌+◌, ◌*◌, ◌<◌, ◌≤◌, eqb-true, Bool, true, List, [], ◌∷◌, ◌++◌, length, drop, refl, ap, arith, length-drop}
 use Rattle.std.proofs.lemmas.Bool.{and_parts}
 use Rattle.std.proofs.lemmas.Grind.{common_steps}
-use Rattle.std.proofs.lemmas.List.{take-append-le, drop-append-le, drop-drop, take_all, drop_all, nil_from_length, length-take}
+use Rattle.std.proofs.lemmas.List.{take-append-le, drop-append-le, take_all, nil_from_length, length-take}
 use borrow.Author.Tests.{ltb-true}
 use Rattle.obj_heap.specs.declared.made.Made.{Made}
-use Rattle.obj_heap.specs.Objects.{Object, put}
 use Rattle.obj_heap.specs.Calls.{total}
-use Rattle.obj_heap.specs.Laying.{object_of, objects_of, are_laid}
-use Rattle.obj_heap.proofs.Puts.{take-put, drop-put, take-put_behind, drop-put_before, length-put}
+use Rattle.obj_heap.specs.Laying.{objects_of, are_laid}
 
 pub none_is : (H : Type 0) (first end : ℕ) → are_laid {H = H} first [] end ≡ true → first ≡ end
 unfolding are_laid

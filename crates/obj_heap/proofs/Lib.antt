@@ -6,3 +6,7 @@ pub mod Strings
 pub mod PlaceKinds
 pub mod Natural
 pub mod Repeats
+pub mod Written
+pub mod Steps
+pub mod Contents
+pub mod Elements

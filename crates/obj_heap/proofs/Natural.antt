@@ -1,44 +1,39 @@
 -- A heap never looks at the names of types: to rename them before a call or after it is the same.
-use Rattle.std.proofs.Common.{◌≡◌, ℕ, zero, suc, ◌+◌, ◌-◌, Bool, true, false, List, [], ◌∷◌, ◌++◌, length, map, Option, Some, None, Result, Ok, Err, nat_lt, cond, slice_get, slice_set, refl, sym, ap, ◌∙◌}
+use Rattle.std.proofs.Common.{◌≡◌, ℕ, zero, suc, ◌+◌, Bool, true, false, List, [], ◌∷◌, ◌++◌, length, Option, Some, None, Ok, Err, nat_lt, cond, refl, sym, ap, ◌∙◌}
 use Rattle.std.specs.Option.{option_map, option_map_or}
 use Rattle.std.proofs.lemmas.List.{map-append, map-set, length-map}
 use Rattle.std.proofs.lemmas.Option.{slice_get-map}
 use Rattle.obj_heap.specs.declared.address.Address.{Address}
 use Rattle.obj_heap.specs.declared.address.ObjRef.{ObjRef}
-use Rattle.obj_heap.specs.declared.fault.HeapFault.{HeapFault}
 use Rattle.obj_heap.specs.declared.fault.HeapFault.TheVariants as fault
 use Rattle.obj_heap.specs.declared.room.TheConstants.{HEAP_LIMIT}
 use Rattle.obj_heap.specs.Objects.{Object, map_object, map_objects, blank, array_size, array_refs, string_object}
 use Rattle.obj_heap.specs.Calls as spec
+use Rattle.obj_heap.specs.Laws.{map_made}
 
 module _ {A B : Type 0} (f : A → B) where
-  -- what a call that makes an object gives, with other names
-  abbrev pub on_made : Result (ObjRef × List (Object A)) HeapFault → Result (ObjRef × List (Object B)) HeapFault
-  on_made (Ok made) = Ok (made.0, map_objects f made.1)
-  on_made (Err e) = Err e
-
   total-natural : (s : List (Object A)) → spec.total (map_objects f s) ≡ spec.total s
   unfolding spec.total
   total-natural [] = refl
   total-natural (o ∷ s) = ap (λ n. length o.bytes + n) (total-natural s)
 
-  added-natural : (o : Object A) (s : List (Object A)) → spec.added (map_object f o) (map_objects f s) ≡ on_made (spec.added o s)
+  added-natural : (o : Object A) (s : List (Object A)) → spec.added (map_object f o) (map_objects f s) ≡ map_made f (spec.added o s)
   added-natural o s = rw (total-natural s) (go (nat_lt HEAP_LIMIT (spec.total s + length o.bytes)))
     where
       go : (full : Bool) → cond full (Err fault.HeapFull) (Ok (record { 0 = length (map_objects f s) + 1 }, map_objects f s ++ map_object f o ∷ []))
-          ≡ on_made (cond full (Err fault.HeapFull) (Ok (record { 0 = length s + 1 }, s ++ o ∷ [])))
+          ≡ map_made f (cond full (Err fault.HeapFull) (Ok (record { 0 = length s + 1 }, s ++ o ∷ [])))
       go true = refl
       go false = rw (length-map s (map_object f), map-append (map_object f) s (o ∷ [])) refl
 
-  pub new_object-natural : (h : A) (size : ℕ) (refs : List Bool) (s : List (Object A)) → spec.new_object (f h) size refs (map_objects f s) ≡ on_made (spec.new_object h size refs s)
+  pub new_object-natural : (h : A) (size : ℕ) (refs : List Bool) (s : List (Object A)) → spec.new_object (f h) size refs (map_objects f s) ≡ map_made f (spec.new_object h size refs s)
   unfolding spec.new_object blank
   new_object-natural h size refs s = added-natural (blank h 0 size refs) s
 
-  pub new_array-natural : (h : A) (element n : ℕ) (refs : List Bool) (s : List (Object A)) → spec.new_array (f h) element n refs (map_objects f s) ≡ on_made (spec.new_array h element n refs s)
+  pub new_array-natural : (h : A) (element n : ℕ) (refs : List Bool) (s : List (Object A)) → spec.new_array (f h) element n refs (map_objects f s) ≡ map_made f (spec.new_array h element n refs s)
   unfolding spec.new_array blank
   new_array-natural h element n refs s = added-natural (blank h n (array_size element n) (array_refs refs n)) s
 
-  pub new_string-natural : (h : A) (units : List ℕ) (s : List (Object A)) → spec.new_string (f h) units (map_objects f s) ≡ on_made (spec.new_string h units s)
+  pub new_string-natural : (h : A) (units : List ℕ) (s : List (Object A)) → spec.new_string (f h) units (map_objects f s) ≡ map_made f (spec.new_string h units s)
   unfolding spec.new_string string_object
   new_string-natural h units s = added-natural (string_object h units) s
 

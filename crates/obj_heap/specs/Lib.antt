@@ -1,3 +1,4 @@
 pub mod Objects
 pub mod Calls
 pub mod Laying
+pub mod Laws

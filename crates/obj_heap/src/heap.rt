@@ -193,7 +193,8 @@ impl<H: Copy> Heap<H> {
     pub fn read_at(&self, place: Address, width: u8) -> u64
         requires width { IsTrue (spec.is_width width) }
         requires inside { IsTrue (spec.is_inside self.now place width) }
-        ensures { result ≡ spec.read_at self.now place width }
+        ensures value { result ≡ spec.read_at self.now place width }
+        ensures narrow { result < 256 ^ width }
     {
         let made = noted(&self.made, place.object).unwrap();
         let at = 8 * made.first as usize + place.offset as usize;

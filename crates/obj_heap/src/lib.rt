@@ -5,6 +5,7 @@ mod address;
 mod fault;
 mod heap;
 mod kinds;
+mod laws;
 mod made;
 mod numbers;
 mod room;
@@ -12,4 +13,7 @@ mod room;
 pub use address::{Address, ObjRef, PlaceKind};
 pub use fault::HeapFault;
 pub use heap::Heap;
+pub use laws::{
+    kinds_as_said, last_written, made_of, made_once, names_unseen, one_more, others_stay,
+};
 pub use room::HEAP_LIMIT;

@@ -1,6 +1,6 @@
 //! Numbers in bytes, the lowest byte first.
 
-ghost use Rattle.std.specs.Prelude.{◌≡◌, ◌+◌, ◌*◌, ◌%◌, ◌^◌, ◌≤◌, ◌++◌, length, drop, replicate, vec_len, vec_capacity, IsTrue};
+ghost use Rattle.std.specs.Prelude.{◌≡◌, ◌+◌, ◌*◌, ◌%◌, ◌^◌, ◌<◌, ◌≤◌, ◌++◌, length, drop, replicate, vec_len, vec_capacity, IsTrue};
 ghost use Rattle.std.specs.List.{flat_map};
 ghost use Rattle.byteorder.specs.Endian.{little_bytes, little_number};
 ghost use Rattle.obj_heap.specs.Calls.{is_width};
@@ -12,7 +12,8 @@ use byteorder::{ByteOrder, LittleEndian};
 pub(crate) fn read_number(bytes: &[u8], at: usize, width: u8) -> u64
     requires width { IsTrue (is_width width) }
     requires inside { at + width ≤ length bytes.now }
-    ensures { result ≡ little_number width (drop at bytes.now) }
+    ensures value { result ≡ little_number width (drop at bytes.now) }
+    ensures narrow { result < 256 ^ width }
 {
     let bytes = &bytes[at..];
     match width {

@@ -2,7 +2,7 @@ use Rattle.std.proofs.Common.{◌∙◌, [], ◌∷◌, ◌++◌, map, sym, ap, 
 use Rattle.std.proofs.lemmas.List.{map-append}
 use Rattle.clr_base.proofs.Ranges.{map_more}
 use Rattle.type_tree.specs.Bodies as bodies
-use Rattle.code_table.specs.declared.table.Slot.{Slot}
+use Rattle.code_table.specs.declared.place.Slot.{Slot}
 use Rattle.code_table.proofs.table.CodeTable.open.Goals as goal
 
 pub loop-method-preserved : goal.loop-method-preserved

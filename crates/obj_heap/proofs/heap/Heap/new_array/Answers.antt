@@ -1,4 +1,4 @@
-use Rattle.std.proofs.Common.{◌≡◌, refl, arith}
+use Rattle.std.proofs.Common.{arith}
 use Rattle.obj_heap.specs.Calls.{new_array}
 use Rattle.obj_heap.proofs.Repeats.{product_fits, marks_inside}
 use Rattle.obj_heap.proofs.heap.Heap.new_array.Goals as goal

@@ -1,4 +1,4 @@
-use Rattle.std.proofs.Common.{◌≡◌, [], ◌++◌, refl, arith, append-nil}
+use Rattle.std.proofs.Common.{arith, append-nil}
 use Rattle.obj_heap.specs.Calls.{new_object}
 use Rattle.obj_heap.proofs.heap.Heap.new_object.Goals as goal
 

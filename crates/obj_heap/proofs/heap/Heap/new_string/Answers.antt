@@ -1,12 +1,12 @@
-use Rattle.std.proofs.Common.{rules, ℕ, ◌≡◌, ◌+◌, ◌-◌, ◌*◌, ◌<◌, ◌≤◌, ◌++◌, true, false, [], ◌∷◌, length, replicate, refl, ap, sym, arith, length-append}
+use Rattle.std.proofs.Common.{ℕ, ◌≡◌, ◌+◌, ◌-◌, ◌*◌, ◌<◌, ◌≤◌, ◌++◌, false, length, replicate, refl, arith, length-append}
 use Rattle.std.proofs.lemmas.List.{length-replicate, length_push}
 use Rattle.std.proofs.lemmas.Result.{err_from_is_err_and}
-use Rattle.std.specs.List.{repeat, flat_map}
+use Rattle.std.specs.List.{flat_map}
 use Rattle.byteorder.specs.Endian.{little_bytes}
-use Rattle.obj_heap.specs.Objects.{words, filled, blank, string_object}
+use Rattle.obj_heap.specs.Objects.{string_object}
 use Rattle.obj_heap.specs.Calls.{new_string}
 use Rattle.obj_heap.proofs.Added.{added_is, added_laid, refused, told, not_full, total_seen, few_seen}
-use Rattle.obj_heap.proofs.Repeats.{length-filled, length_marks, string_by, length_units}
+use Rattle.obj_heap.proofs.Repeats.{string_by, length_units}
 use Rattle.obj_heap.proofs.Strings.{too_long}
 use Rattle.obj_heap.proofs.heap.Heap.new_string.Goals as goal
 
