@@ -1,0 +1,9 @@
+pub mod HandLemmas
+pub mod KeyedLemmas
+pub mod LastPlaces
+pub mod Matches
+pub mod OpenLemmas
+pub mod OpenPuts
+pub mod SlotLemmas
+pub mod Steps
+pub mod VirtualLemmas

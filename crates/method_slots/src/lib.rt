@@ -1,0 +1,16 @@
+//! The virtual slots of type definitions: how methods match, and which numbers they take.
+#![tactic(auto)]
+
+mod handing;
+mod laws;
+mod numbers;
+mod open_set;
+mod opens;
+mod virtuals;
+
+pub use handing::hand_on;
+pub use laws::slots_of_the_parent_stay;
+pub use numbers::{Virtual, slot_numbers};
+pub use open_set::OpenSet;
+pub use opens::{OpenMethod, open_method, put_in, same_open};
+pub use virtuals::{own_numbers, takes_slot};
