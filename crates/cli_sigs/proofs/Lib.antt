@@ -3,6 +3,7 @@ pub mod ReaderLaws
 pub mod Repeats
 pub mod MarkRuns
 pub mod Skipping
+pub mod Told
 pub mod Numbers
 pub mod Each
 pub mod Marked

@@ -8,7 +8,7 @@ use Rattle.cli_sigs.specs.declared.fault.SigFault.TheVariants as fault
 use Rattle.cli_sigs.specs.declared.marks.Before.TheVariants as before
 use Rattle.cli_sigs.specs.declared.types.Callee.TheVariants as callee
 use Rattle.cli_sigs.specs.Reading.{Answer, Part, ◌>>=◌, refused}
-use Rattle.cli_sigs.specs.Compressed.{counted_at, arguments_at}
+use Rattle.cli_sigs.specs.Compressed.{number_at, counted_at, arguments_at}
 use Rattle.cli_sigs.specs.Marks.{marked}
 use Rattle.cli_sigs.specs.Types.{Reader, type_at, method_at, marked_type_at}
 
@@ -68,3 +68,12 @@ checked (Err place) = Err (fault.Bad place)
 abbrev pub counted : {X : Type 0} → Result (List X) ℕ → Result ℕ SigFault
 counted (Ok xs) = Ok (length xs)
 counted (Err place) = Err (fault.Bad place)
+
+-- how many locals a blob tells behind its code, before their types; 0 where it tells no number
+abbrev pub told_by : Part ℕ → ℕ
+told_by (Ok number) = number.0
+told_by (Err left) = 0
+
+unfoldable pub told_locals : List ℕ → ℕ
+told_locals [] = 0
+told_locals (code ∷ rest) = told_by (number_at rest)

@@ -1,5 +1,7 @@
 //! The five checks: whether a blob is a signature, with no value of it but how many locals there are. They take no memory.
-ghost use Rattle.std.specs.Prelude.{◌≡◌, ◌<◌, ◌^◌, ℕ, List, length};
+ghost use Rattle.std.specs.Prelude.{◌≡◌, ◌<◌, ◌^◌, ℕ, List, length, Ok};
+ghost use Rattle.cli_sigs.specs.declared.signature.RowCounts.{RowCounts};
+ghost use Rattle.cli_sigs.specs.declared.signature.SigTy.{SigTy};
 ghost use Rattle.cli_sigs.specs.Fault.{reached};
 ghost use Rattle.cli_sigs.specs.Reading.{Answer, Finds, behind, measured, repeated};
 ghost use Rattle.cli_sigs.specs.Signatures as spec;
@@ -114,6 +116,29 @@ pub fn count_locals(blob: &[u8], counts: &RowCounts) -> Result<u32, SigFault>
         Ok((count, _)) => Ok(count),
         Err(stop) => Err(stop.in_blob(blob)),
     }
+}
+
+/// The number behind a blob's code, 0 where there is none.
+#[tactic(auto, unfolding(crate::specs::Signatures::told_locals))]
+fn number_told(blob: &[u8]) -> u32
+    ensures { result ≡ spec.told_locals blob.now }
+{
+    match blob {
+        [_, rest @ ..] => match number(rest) {
+            Ok((count, _)) => count,
+            Err(_) => 0,
+        },
+        [] => 0,
+    }
+}
+
+/// How many locals a blob tells before their types: of a blob that passes [`count_locals`] the same number, without going
+/// past the types again. Takes constant time.
+pub fn told_locals(blob: &[u8]) -> u32
+    ensures exact { result ≡ spec.told_locals blob.now }
+    ensures listed { (counts : RowCounts) (xs : List SigTy) → spec.placed blob.now (spec.locals_at counts blob.now) ≡ Ok xs → result ≡ length xs }
+{
+    number_told(blob)
 }
 
 /// Checks the type that a TypeSpec row names: answers as [`read_type_spec`](crate::read_type_spec), with nothing in place

@@ -11,7 +11,9 @@ mod readers;
 mod signature;
 mod types;
 
-pub use checks::{check_field, check_method, check_method_spec, check_type_spec, count_locals};
+pub use checks::{
+    check_field, check_method, check_method_spec, check_type_spec, count_locals, told_locals,
+};
 pub use fault::SigFault;
 pub use readers::{read_field, read_locals, read_method, read_method_spec, read_type_spec};
 pub use signature::{RowCounts, SigMethod, SigTy, SigTyList};

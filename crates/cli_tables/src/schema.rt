@@ -50,10 +50,10 @@ pub const MOST_COLUMNS: usize = 9;
 pub const TABLE_COUNT: usize = 45;
 
 /// How many bits the tag of each coded index has, in the order of `CodedIndex`.
-pub const TAG_BITS: [u8; 13] = [2, 2, 5, 1, 2, 3, 1, 1, 1, 2, 3, 2, 1];
+pub static TAG_BITS: [u8; 13] = [2, 2, 5, 1, 2, 3, 1, 1, 1, 2, 3, 2, 1];
 
 /// The tables that each coded index may mean, by tag. A tag that isn't used has no table.
-pub const CODED_TABLES: [&[Option<u8>]; 13] = [
+pub static CODED_TABLES: [&[Option<u8>]; 13] = [
     // TypeDefOrRef
     &[Some(0x02), Some(0x01), Some(0x1b)],
     // HasConstant
@@ -106,7 +106,7 @@ pub const CODED_TABLES: [&[Option<u8>]; 13] = [
 ];
 
 /// The columns of each table, by its number. A table that isn't known has none.
-pub const TABLES: [&[Column]; TABLE_COUNT] = [
+pub static TABLES: [&[Column]; TABLE_COUNT] = [
     // 0x00 Module
     &[
         Column::U16, // Generation

@@ -1,4 +1,4 @@
--- Counts of what happened outside: how often a file was asked for, and how often a thing failed.
+-- Counts of what happened outside: how often a file was asked for, how many were given, and how often a thing failed.
 use Rattle.std.specs.Prelude.{◌≡◌, ℕ, zero, suc, ◌+◌, ◌-◌, ◌^◌, max, min, Result, Ok, Err}
 use Rattle.clr_base.specs.declared.outside.FetchFault.{FetchFault}
 use Rattle.clr_base.specs.declared.outside.FetchFault.TheVariants as fetch
@@ -22,3 +22,8 @@ abbrev pub FetchCounts : {T : Type 0} → ℕ → ℕ → Result T FetchFault �
 FetchCounts before now (Ok value) = now ≡ before
 FetchCounts before now (Err fetch.Failed) = now ≡ counted before
 FetchCounts before now (Err fetch.Memory) = now ≡ before
+
+-- The count of files that were given rises by one exactly where the call gives one.
+abbrev pub GivenCounts : {T E : Type 0} → ℕ → ℕ → Result T E → Type 0
+GivenCounts before now (Ok value) = now ≡ counted before
+GivenCounts before now (Err fault) = now ≡ before

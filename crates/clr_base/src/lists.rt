@@ -81,13 +81,17 @@ impl Text {
         }
     }
 
-    /// The empty text, with room for so many bytes.
-    pub fn with_capacity(alloc: Global, capacity: usize) -> Result<Text, AllocError>
-        ensures { IfOk result (λ text. text ≡ []) }
+    /// Three texts behind one another, in memory that is taken once.
+    pub fn joined(alloc: Global, first: &str, second: &str, third: &str) -> Result<Text, AllocError>
+        ensures { IfOk result (λ text. text ≡ first.now ++ second.now ++ third.now) }
     {
-        Ok(Text {
-            text: String::with_capacity(alloc, capacity)?,
-        })
+        let front = first.len().saturating_add(second.len());
+        let room = front.saturating_add(third.len());
+        let mut text = String::with_capacity(alloc, room)?;
+        text.push_str(first)?;
+        text.push_str(second)?;
+        text.push_str(third)?;
+        Ok(Text { text })
     }
 
     /// A copy of a text.

@@ -1,7 +1,7 @@
 //! A shelf and a sink in memory, which tell what they hold and fail by a script.
 ghost use Rattle.std.specs.Prelude.{◌≡◌, ◌+◌, ◌-◌, ◌<◌, ◌≤◌, ◌↔◌, ◌⊎◌, ℕ, [], Some, None, IfOk, IsErr, IsErrOf, Contains, length, min, vec_len, vec_capacity};
 ghost use Rattle.std.specs.Option.{option_copied};
-ghost use Rattle.clr_base.specs.Causes.{Counts, FetchCounts, counted};
+ghost use Rattle.clr_base.specs.Causes.{Counts, FetchCounts, GivenCounts, counted};
 ghost use Rattle.clr_base.specs.Content.{Takes};
 ghost use Rattle.clr_base.specs.Files.{named, held};
 
@@ -22,18 +22,20 @@ pub struct MemShelf {
     pub files: Vec<MemFile>,
     pub failing: Vec<u64>,
     pub calls: u64,
+    pub given_count: u64,
     pub fault_count: u64,
 }
 
 impl MemShelf {
     /// A shelf with no call made. Of two files with one name the first counts.
     pub fn new(files: Vec<MemFile>, failing: Vec<u64>) -> MemShelf
-        ensures { result ≡ record { files = files; failing = failing; calls = 0; fault_count = 0 } }
+        ensures { result ≡ record { files = files; failing = failing; calls = 0; given_count = 0; fault_count = 0 } }
     {
         MemShelf {
             files,
             failing,
             calls: 0,
+            given_count: 0,
             fault_count: 0,
         }
     }
@@ -51,12 +53,15 @@ impl Shelf for MemShelf {
 
     ghost calls = { λ s. s.calls };
 
+    ghost given = { λ s. s.given_count };
+
     ghost faults = { λ s. s.fault_count };
 
     fn fetch(&mut self, alloc: Global, name: &str) -> Result<Vec<u8>, FetchFault>
         ensures bytes { IfOk result (λ bytes. held self.old.files.items name.now ≡ Some bytes.items) }
         ensures kept { (self.new.files.items ≡ self.old.files.items) × (self.new.failing.items ≡ self.old.failing.items) }
         ensures asked { self.new.calls ≡ counted self.old.calls }
+        ensures gave { GivenCounts self.old.given_count self.new.given_count result }
         ensures cause { FetchCounts self.old.fault_count self.new.fault_count result }
         ensures marked { Contains self.old.failing.items self.old.calls → IsErrOf result FetchFault.Failed }
         ensures missing { held self.old.files.items name.now ≡ None → IsErrOf result FetchFault.Failed }
@@ -74,7 +79,10 @@ impl Shelf for MemShelf {
                 Err(FetchFault::Failed)
             }
             Some(file) => match file.bytes.as_slice().to_vec(alloc) {
-                Ok(bytes) => Ok(bytes),
+                Ok(bytes) => {
+                    self.given_count = self.given_count.saturating_add(1);
+                    Ok(bytes)
+                }
                 Err(_) => Err(FetchFault::Memory),
             },
         }

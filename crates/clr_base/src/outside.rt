@@ -2,7 +2,7 @@
 //! The count of faults rises by one where a call answers `Failed`, and at no other call.
 ghost use Rattle.std.specs.Prelude.{◌≡◌, ℕ, List, IfOk};
 ghost use Rattle.std.specs.declared.option.Option.{Option};
-ghost use Rattle.clr_base.specs.Causes.{Counts, FetchCounts, counted};
+ghost use Rattle.clr_base.specs.Causes.{Counts, FetchCounts, GivenCounts, counted};
 ghost use Rattle.clr_base.specs.Content.{Takes};
 ghost use Rattle.clr_base.specs.Files.{IsFile};
 
@@ -33,6 +33,9 @@ pub trait Shelf {
     /// How often a file was asked for. The count stays at the greatest `u64` once it is there.
     ghost calls: { Self → ℕ };
 
+    /// How many files it has given. The count stays at the greatest `u64` once it is there.
+    ghost given: { Self → ℕ };
+
     /// How often it has failed. The count stays at the greatest `u64` once it is there.
     ghost faults: { Self → ℕ };
 
@@ -41,6 +44,7 @@ pub trait Shelf {
         ensures bytes { IfOk result (λ bytes. IsFile (files self.old) name.now bytes.items) }
         ensures kept { files self.new ≡ files self.old }
         ensures asked { calls self.new ≡ counted (calls self.old) }
+        ensures gave { GivenCounts (given self.old) (given self.new) result }
         ensures cause { FetchCounts (faults self.old) (faults self.new) result };
 }
 

@@ -1,6 +1,6 @@
 //! Real files, and any writer: the trusted edge. They don't tell what they hold.
 ghost use Rattle.std.specs.Prelude.{◌≡◌, ◌<◌, ◌≤◌, None, IfOk, length};
-ghost use Rattle.clr_base.specs.Causes.{Counts, FetchCounts, counted};
+ghost use Rattle.clr_base.specs.Causes.{Counts, FetchCounts, GivenCounts, counted};
 ghost use Rattle.clr_base.specs.Files.{IsFile};
 
 use crate::outside::{Failed, FetchFault, Shelf, Sink};
@@ -18,17 +18,19 @@ const GREATEST_FILE: u64 = 268_435_456;
 pub struct FileShelf<'a, R: Files> {
     files: &'a R,
     calls: u64,
+    given_count: u64,
     fault_count: u64,
 }
 
 impl<'a, R: Files> FileShelf<'a, R> {
-    /// A shelf that wasn't asked for a file, and hasn't failed.
+    /// A shelf that wasn't asked for a file, gave none, and hasn't failed.
     pub fn new(files: &'a R) -> FileShelf<'a, R>
-        ensures { (result.calls ≡ 0) × (result.fault_count ≡ 0) }
+        ensures { (result.calls ≡ 0) × (result.given_count ≡ 0) × (result.fault_count ≡ 0) }
     {
         FileShelf {
             files,
             calls: 0,
+            given_count: 0,
             fault_count: 0,
         }
     }
@@ -55,16 +57,22 @@ impl<R: Files> Shelf for FileShelf<'_, R> {
 
     ghost calls = { λ s. s.calls };
 
+    ghost given = { λ s. s.given_count };
+
     ghost faults = { λ s. s.fault_count };
 
     fn fetch(&mut self, alloc: Global, name: &str) -> Result<Vec<u8>, FetchFault>
         ensures bytes { IfOk result (λ bytes. IsFile None name.now bytes.items) }
         ensures asked { self.new.calls ≡ counted self.old.calls }
+        ensures gave { GivenCounts self.old.given_count self.new.given_count result }
         ensures cause { FetchCounts self.old.fault_count self.new.fault_count result }
     {
         self.calls = self.calls.saturating_add(1);
         match read_file(self.files, alloc, name) {
-            Ok(Some(bytes)) => return Ok(bytes),
+            Ok(Some(bytes)) => {
+                self.given_count = self.given_count.saturating_add(1);
+                return Ok(bytes);
+            }
             Ok(None) => {}
             Err(error) => {
                 if error.kind() == ErrorKind::OutOfMemory {

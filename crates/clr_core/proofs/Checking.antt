@@ -1,5 +1,5 @@
 -- What comes of files that were checked: their text, or the number of the one that is refused.
-use Rattle.std.proofs.Common.{◌≡◌, ℕ, ◌+◌, ◌-◌, ◌≤◌, ◌⊎◌, inl, inr, List, [], ◌∷◌, ◌++◌, length, Option, Some, Result, Ok, Err, refl, sym, ap, ◌∙◌, subst, arith, length-append, unwrap_or}
+use Rattle.std.proofs.Common.{◌≡◌, ℕ, ◌+◌, ◌-◌, ◌≤◌, ◌⊎◌, inl, inr, List, [], ◌∷◌, ◌++◌, length, Option, Some, Result, Ok, Err, sym, ap, ◌∙◌, subst, arith, length-append, unwrap_or}
 use Rattle.std.specs.Prelude.{slice_get}
 use Rattle.clr_base.specs.declared.image_fault.ImageFault.{ImageFault}
 use Rattle.clr_base.specs.Checks.{first_fault}
@@ -54,7 +54,7 @@ files_fault names files number fault e = ap (text_or_fault names) e
 
 -- the text of a run that comes to its write, of bytes that were read through a reference
 pub reports : (run : Run) (names bytes read : List (List ℕ)) (text made : List ℕ) → named_files run.words ≡ Some names → AreFiles run.shelf.before names bytes
-    → IsCalm run.shelf (length names) → read ≡ bytes → names_of names read ≡ Ok text → made ≡ text → Judged run (Ok made)
+    → IsCalm run.shelf (length names) (length names) → read ≡ bytes → names_of names read ≡ Ok text → made ≡ text → Judged run (Ok made)
 reports run names bytes read text made named told calm same answers is = record {
   files = names;
   named = named;
@@ -72,12 +72,11 @@ fetch_stopped run names Usage named stops untouched = absurd stops
 fetch_stopped run names (ReadFault file) named stops untouched = (record { files = names; named = named; fails = stops }, untouched)
 fetch_stopped run names (BadImage file fault) named stops untouched = absurd stops
 fetch_stopped run names WriteFault named stops untouched = absurd stops
-fetch_stopped run names Memory named (count, within, calm) untouched =
-    (record { files = names; named = named; count = count; within = within; calm = calm }, untouched)
+fetch_stopped run names Memory named stops untouched = (record { files = names; named = named; cause = inl stops }, untouched)
 
 -- and one whose files have no text
 pub checks_stopped : (run : Run) (names bytes : List (List ℕ)) (end : End) → named_files run.words ≡ Some names → AreFiles run.shelf.before names bytes
-    → IsCalm run.shelf (length names) → StopsChecks names bytes end → IsUntouched run.out → Happened run end
+    → IsCalm run.shelf (length names) (length names) → StopsChecks names bytes end → IsUntouched run.out → Happened run end
 checks_stopped run names bytes Done named told calm stops untouched = absurd stops
 checks_stopped run names bytes Usage named told calm stops untouched = absurd stops
 checks_stopped run names bytes (ReadFault file) named told calm stops untouched = absurd stops
@@ -93,4 +92,4 @@ checks_stopped run names bytes (BadImage file fault) named told calm stops untou
 )
 checks_stopped run names bytes WriteFault named told calm stops untouched = absurd stops
 checks_stopped run names bytes Memory named told calm stops untouched =
-    (record { files = names; named = named; count = length names; within = omega arith; calm = calm }, untouched)
+    (record { files = names; named = named; cause = inr (record { bytes = bytes; told = told; calm = calm; place = stops }) }, untouched)

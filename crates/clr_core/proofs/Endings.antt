@@ -1,5 +1,5 @@
 -- What follows from how a run ended.
-use Rattle.std.proofs.Common.{◌≡◌, ◌≢◌, ◌↔◌, ◌⊎◌, inl, inr, ℕ, ◌+◌, ◌-◌, ◌≤◌, List, [], length, Option, None, Some, Result, Ok, Err, refl, sym, ap, ◌∙◌, subst, arith, unwrap_or}
+use Rattle.std.proofs.Common.{◌≡◌, ◌≢◌, ◌↔◌, ◌⊎◌, inl, inr, ℕ, zero, suc, ◌+◌, ◌-◌, ◌≤◌, List, [], length, Option, None, Some, Result, Ok, Err, IsOk, refl, sym, ap, ◌∙◌, subst, arith, unwrap_or}
 use Rattle.std.specs.Prelude.{slice_get}
 use Rattle.std.specs.Option.{option_and_then}
 use Rattle.std.proofs.lemmas.Option.{slice_get_within}
@@ -7,12 +7,14 @@ use Rattle.clr_base.specs.Causes.{counted, counted_times}
 use Rattle.clr_base.specs.Content.{then_bytes}
 use Rattle.clr_base.specs.declared.image_fault.ImageFault.{ImageFault}
 use Rattle.clr_base.specs.declared.image_fault.FaultKind.TheVariants.{NotPe}
+use Rattle.image_rows.specs.Image.{tables_of}
+use Rattle.image_files.proofs.RunningOut.{first_placed, first_passed}
 use Rattle.clr_core.specs.Answers.{Answers, read_faults_after, write_faults_after}
 use Rattle.clr_core.specs.Command.{named_files}
 use Rattle.clr_core.specs.Fetched.{Files, AreFiles, IsUnread, all_held}
 use Rattle.clr_core.specs.Lines.{usage_line, unread_line, refused_line, unwritten_line, memory_line}
 use Rattle.clr_core.specs.Names.{names_of}
-use Rattle.clr_core.specs.Ends.{Written, Run, End, Done, Usage, ReadFault, BadImage, WriteFault, Memory, IsUntouched, Judged, Unread, Happened, Says, Tells, EndsWith, status_of, the_file, the_files, told_bytes, told_names, line_of}
+use Rattle.clr_core.specs.Ends.{Written, Run, End, Done, Usage, ReadFault, BadImage, WriteFault, Memory, IsUntouched, Judged, RunsOut, Unread, Happened, Says, Tells, EndsWith, status_of, the_file, the_files, told_bytes, told_names, line_of}
 use Rattle.clr_core.specs.declared.status.Status.{Status}
 use Rattle.clr_core.specs.declared.status.Status.TheVariants as status
 
@@ -43,7 +45,7 @@ reads_by run Usage (none, untouched, calm) = calm.faults
 reads_by run (ReadFault file) (unread, untouched) = unread.fails.cause
 reads_by run (BadImage file fault) (refused, untouched) = refused.judged.calm.faults
 reads_by run WriteFault (text, judged, cut) = judged.calm.faults
-reads_by run Memory (short, untouched) = short.calm.faults
+reads_by run Memory (short, untouched) = elim short.cause [ inl few ↦ few.calm.faults | inr cut ↦ cut.calm.faults ]
 
 read_faults : (run : Run) (err : Written) (s : Status) → EndsWith run err s → run.shelf.faults_now ≡ read_faults_after s run.shelf.faults_before
 read_faults run err s ends = subst (λ t. run.shelf.faults_now ≡ read_faults_after t run.shelf.faults_before) ends.is (reads_by run ends.end ends.happened)
@@ -83,7 +85,11 @@ asked_by run (BadImage file fault) (refused, untouched) =
     (length (the_files run.words), omega arith, all_asked run (Err (refused.number, fault)) refused.judged)
 asked_by run WriteFault (text, judged, cut) = (length (the_files run.words), omega arith, all_asked run (Ok text) judged)
 asked_by run Memory (short, untouched) =
-    let count = ap length (files_of run.words short.files short.named) in (short.count, omega (arith, short.within, count), short.calm.asked)
+    let count = ap length (files_of run.words short.files short.named) in
+    elim short.cause [
+      | inl few ↦ (few.calls, omega (arith, few.last, few.within, count), few.calm.asked)
+      | inr cut ↦ (length short.files, omega (arith, count), cut.calm.asked)
+    ]
 
 asked : (run : Run) (err : Written) (s : Status) → EndsWith run err s → Asked run
 asked run err s ends = asked_by run ends.end ends.happened
@@ -286,6 +292,40 @@ complete : (run : Run) (err : Written) (s : Status) → EndsWith run err s → (
     → (s ≡ status.Done) ⊎ (s ≡ status.Memory)
 complete run err s ends bytes text = complete_by run ends.end s bytes text ends.is ends.happened
 
+-- Memory ran out behind what takes none, where all files were given.
+counted_few : (n : ℕ) → counted n ≤ n + 1
+counted_few n = grind arith
+
+times_few : (k n : ℕ) → counted_times k n ≤ n + k
+times_few zero n = omega arith
+times_few (suc k) n = let one = counted_few (counted_times k n) in let rest = times_few k n in omega arith
+
+memory_by : (run : Run) (end : End) (s : Status) (bytes : List (List ℕ)) → status_of end ≡ s → Happened run end
+    → told_bytes run.shelf.before run.words ≡ Some bytes → s ≡ status.Memory
+    → run.shelf.given_now ≡ run.shelf.given_before + length (the_files run.words) → RunsOut bytes
+memory_by run Done s bytes is h e m all = cc
+memory_by run Usage s bytes is h e m all = cc
+memory_by run (ReadFault file) s bytes is h e m all = cc
+memory_by run (BadImage file fault) s bytes is h e m all = cc
+memory_by run WriteFault s bytes is h e m all = cc
+memory_by run Memory s bytes is (short, untouched) e m all =
+    elim short.cause [
+      | inl few ↦
+          let count = ap length (files_of run.words short.files short.named) in
+          let most = times_few few.given run.shelf.given_before in
+          absurd (omega (arith, few.within, few.calm.gave, count, most, all))
+      | inr cut ↦ subst RunsOut (told run.shelf.before run.words short.files cut.bytes bytes short.named cut.told e) cut.place
+    ]
+
+memory : (run : Run) (err : Written) (s : Status) → EndsWith run err s → (bytes : List (List ℕ))
+    → told_bytes run.shelf.before run.words ≡ Some bytes → s ≡ status.Memory
+    → run.shelf.given_now ≡ run.shelf.given_before + length (the_files run.words) → RunsOut bytes
+memory run err s ends bytes = memory_by run ends.end s bytes ends.is ends.happened
+
+first_of_them : (bytes : List (List ℕ)) (file : List ℕ) → RunsOut bytes → slice_get bytes 0 ≡ Some file → IsOk (tables_of file)
+first_of_them bytes file (inl out) e = first_placed bytes file out e
+first_of_them bytes file (inr passed) e = first_passed bytes file passed e
+
 -- all of it
 pub answers : (run : Run) (err : Written) (s : Status) → EndsWith run err s → Answers run err s
 answers run err s ends = record {
@@ -300,6 +340,8 @@ answers run err s ends = record {
   refused = refused run err s ends;
   done = done run err s ends;
   complete = complete run err s ends;
+  memory = memory run err s ends;
+  placed = λ bytes file e first is all. first_of_them bytes file (memory run err s ends bytes e is all) first;
   out_untouched = out_untouched run err s ends;
   err_untouched = err_untouched run err s ends;
   shelf_kept = ends.kept;

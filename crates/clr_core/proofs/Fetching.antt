@@ -1,6 +1,7 @@
 -- One more file that is fetched.
-use Rattle.std.proofs.Common.{◌≡◌, ℕ, suc, ◌+◌, ◌<◌, List, [], ◌∷◌, ◌++◌, map, take, length, get_or, Option, None, Some, Err, Vec, String, Global, refl, sym, ap, ◌∙◌, subst, arith, length-append}
-use Rattle.std.specs.Prelude.{string_bytes}
+use Rattle.std.proofs.Common.{◌≡◌, ℕ, zero, suc, ◌+◌, ◌<◌, List, [], ◌∷◌, ◌++◌, map, take, length, get_or, Option, None, Some, Result, Ok, Err, IsOk, Vec, String, Global, refl, sym, ap, ◌∙◌, subst, arith, length-append}
+use Rattle.std.specs.Prelude.{string_bytes, is_ok, if◌then◌else◌}
+use Rattle.std.specs.declared.alloc.AllocError.{AllocError}
 use Rattle.std.specs.Option.{option_and_then, option_map}
 use Rattle.std.proofs.lemmas.List.{length-map, map-append, take-map, take_more}
 use Rattle.clr_base.specs.Causes.{FetchCounts, counted, counted_times}
@@ -8,7 +9,7 @@ use Rattle.clr_base.specs.declared.outside.FetchFault.{FetchFault}
 use Rattle.clr_base.specs.declared.outside.FetchFault.TheVariants as fetch
 use Rattle.clr_base.specs.Files.{IsFile}
 use Rattle.clr_core.specs.Command.{texts_of}
-use Rattle.clr_core.specs.Fetched.{Files, Shelved, AreFiles, IsCalm, all_held}
+use Rattle.clr_core.specs.Fetched.{Files, Shelved, AreFiles, IsCalm, IsShort, all_held}
 use Rattle.image_files.specs.Images.{bytes_of_each}
 use Rattle.clr_core.proofs.FileWords.{as_many}
 
@@ -81,12 +82,35 @@ fetched_more shelf names k name old new file within is before fetched more =
     (files_more shelf (take k (texts_of names)) (bytes_of_each old) (string_bytes name) file.items before fetched))
 
 -- what was asked for, by the words of the names
-pub calm_words : (shelf : Shelved) (names : List (String Global)) → IsCalm shelf (length names) → IsCalm shelf (length (texts_of names))
-calm_words shelf names calm = subst (IsCalm shelf) (sym (as_many names)) calm
+pub calm_words : (shelf : Shelved) (names : List (String Global)) → IsCalm shelf (length names) (length names)
+    → IsCalm shelf (length (texts_of names)) (length (texts_of names))
+calm_words shelf names calm = subst (λ n. IsCalm shelf n n) (sym (as_many names)) calm
 
 -- one call more
 pub once_more : (k calls before now : ℕ) → now ≡ counted calls → calls ≡ counted_times k before → now ≡ counted_times (k + 1) before
 once_more k calls before now is all = is ∙ ap counted all ∙ ap (λ (n : ℕ). counted_times n before) (let next : suc k ≡ k + 1 = omega arith in next)
+
+-- what is done where a call succeeds
+pub where_done : {X Y Z : Type 0} (made : Result X Z) (now grown kept : Y) (x : X) → made ≡ Ok x → now ≡ (if is_ok made then grown else kept) → now ≡ grown
+where_done (Ok y) now grown kept x is e = e
+where_done (Err y) now grown kept x is e = cc
+
+-- no file is asked for where there is no room for them
+not_empty : {X : Type 0} (n : ℕ) (made : Result X AllocError) (e : AllocError) → made ≡ Err e → (n ≡ 0 → IsOk made) → 0 < n
+not_empty zero made e is succeeds = let lost = subst IsOk is (succeeds refl) in cc
+not_empty (suc n) made e is succeeds = omega arith
+
+pub none_asked : {X : Type 0} (shelf : Shelved) (names : List (String Global)) (made : Result X AllocError) (e : AllocError) → made ≡ Err e
+    → (length names ≡ 0 → IsOk made) → shelf.calls_now ≡ shelf.calls_before → shelf.given_now ≡ shelf.given_before
+    → shelf.faults_now ≡ shelf.faults_before → IsShort shelf (texts_of names)
+none_asked shelf names made e is succeeds calls given faults = record {
+  calls = 0;
+  given = 0;
+  each = omega arith;
+  last = omega arith;
+  within = let count = as_many names in let some = not_empty (length names) made e is succeeds in omega arith;
+  calm = record { asked = calls; gave = given; faults = faults };
+}
 
 -- want of memory is no fault
 pub no_fault : (before now : ℕ) (fault : FetchFault) → fault ≡ fetch.Memory → FetchCounts {T = Vec ℕ Global} before now (Err fault) → now ≡ before

@@ -1,10 +1,11 @@
 -- What an answer of the top call means: the one relation between a run and how it ended, and what follows from it, one sentence each.
-use Rattle.std.specs.Prelude.{◌≡◌, ◌≢◌, ◌↔◌, ◌≤◌, ◌⊎◌, ℕ, List, length, None, Some, Ok, Err}
+use Rattle.std.specs.Prelude.{◌≡◌, ◌≢◌, ◌↔◌, ◌≤◌, ◌⊎◌, ℕ, ◌+◌, List, length, None, Some, Ok, Err, IsOk, slice_get}
 use Rattle.clr_base.specs.Causes.{counted, counted_times}
 use Rattle.clr_base.specs.Content.{then_bytes}
 use Rattle.clr_base.specs.declared.image_fault.ImageFault.{ImageFault}
+use Rattle.image_rows.specs.Image.{tables_of}
 use Rattle.clr_core.specs.Command.{named_files}
-use Rattle.clr_core.specs.Ends.{Run, Written, EndsWith, IsUntouched, Says, the_file, the_files, told_bytes, told_names, line_of}
+use Rattle.clr_core.specs.Ends.{Run, Written, EndsWith, IsUntouched, RunsOut, Says, the_file, the_files, told_bytes, told_names, line_of}
 use Rattle.clr_core.specs.Fetched.{IsUnread}
 use Rattle.clr_core.specs.Lines.{refused_line, unread_line}
 use Rattle.clr_core.specs.declared.status.Status.{Status}
@@ -48,6 +49,15 @@ pub record Answers (run : Run) (err : Written) (s : Status) : Type 0 where
       (bytes : List (List ℕ)) (text : List ℕ) → told_bytes run.shelf.before run.words ≡ Some bytes → told_names run.words bytes ≡ Ok text
       → s ≢ status.ReadFault → s ≢ status.WriteFault
       → (s ≡ status.Done) ⊎ (s ≡ status.Memory)
+  -- Want of memory hides no fault that is found without memory: where the shelf gave all files, memory ran out at a file that
+  -- passes its checks of headers, streams and tables, behind files that pass all of theirs, or behind all of them
+  pub memory :
+      (bytes : List (List ℕ)) → told_bytes run.shelf.before run.words ≡ Some bytes → s ≡ status.Memory
+      → run.shelf.given_now ≡ run.shelf.given_before + length (the_files run.words) → RunsOut bytes
+  -- so the first of the files passes those of headers, streams and tables
+  pub placed :
+      (bytes : List (List ℕ)) (file : List ℕ) → told_bytes run.shelf.before run.words ≡ Some bytes → slice_get bytes 0 ≡ Some file
+      → s ≡ status.Memory → run.shelf.given_now ≡ run.shelf.given_before + length (the_files run.words) → IsOk (tables_of file)
   -- what stays as it was
   pub out_untouched : s ≢ status.Done → s ≢ status.WriteFault → run.out.now ≡ run.out.before
   pub err_untouched : s ≡ status.Done → IsUntouched err

@@ -1,13 +1,14 @@
 -- How a run ends, and what it has then done outside.
-use Rattle.std.specs.Prelude.{◌≡◌, ◌⊎◌, ℕ, ◌-◌, ◌≤◌, List, [], length, Option, None, Some, Result, Ok, Err, slice_get, unwrap_or}
+use Rattle.std.specs.Prelude.{◌≡◌, ◌⊎◌, ℕ, ◌-◌, List, [], length, Option, None, Some, Result, Ok, Err, slice_get, unwrap_or}
 use Rattle.std.specs.Option.{option_and_then}
 use Rattle.clr_base.specs.Causes.{counted}
 use Rattle.clr_base.specs.Content.{then_bytes, AppendsPrefix}
 use Rattle.clr_base.specs.declared.image_fault.ImageFault.{ImageFault}
 use Rattle.clr_core.specs.Command.{named_files}
-use Rattle.clr_core.specs.Fetched.{Files, Shelved, AreFiles, IsCalm, IsUnread, all_held}
+use Rattle.clr_core.specs.Fetched.{Files, Shelved, AreFiles, IsCalm, IsShort, IsUnread, all_held}
 use Rattle.clr_core.specs.Lines.{usage_line, unread_line, refused_line, unwritten_line, memory_line}
 use Rattle.clr_core.specs.Names.{names_of}
+use Rattle.image_files.specs.Images.{RanOut, images_of, tables_in}
 use Rattle.clr_core.specs.declared.status.Stop.{Stop}
 use Rattle.clr_core.specs.declared.status.Stop.TheVariants as stop
 use Rattle.clr_core.specs.declared.status.Status.{Status}
@@ -39,14 +40,14 @@ pub data End : Type 0 where
   WriteFault : End
   Memory : End
 
--- All files of the command were fetched, each once, and this came of their bytes: the text that is written, or the number of
+-- All files of the command were fetched, each asked for once, and this came of their bytes: the text that is written, or the number of
 -- the first that is refused, from 1, with its first fault.
 pub record Judged (run : Run) (answer : Result (List ℕ) (ℕ × ImageFault)) : Type 0 where
   pub files : List (List ℕ)
   pub named : named_files run.words ≡ Some files
   pub bytes : List (List ℕ)
   pub told : AreFiles run.shelf.before files bytes
-  pub calm : IsCalm run.shelf (length files)
+  pub calm : IsCalm run.shelf (length files) (length files)
   pub answers : names_of files bytes ≡ answer
 
 -- the words of the command's files
@@ -57,13 +58,23 @@ the_files words = unwrap_or (named_files words) []
 abbrev pub the_file : List (List ℕ) → ℕ → List ℕ
 the_file words number = unwrap_or (slice_get (the_files words) (number - 1)) []
 
--- Memory was wanting behind so many of the command's files, each of them asked for once.
+-- Memory ran out when all files were there: at one of them, behind others that pass all their checks, where it passes those of
+-- headers, streams and tables; or behind all of them, where each passes all.
+abbrev pub RunsOut : List (List ℕ) → Type 0
+RunsOut bytes = RanOut bytes ⊎ (images_of bytes ≡ Ok (tables_in bytes))
+
+-- so it was with these files, each of which was asked for once
+pub record IsSpent (shelf : Shelved) (names : List (List ℕ)) : Type 0 where
+  pub bytes : List (List ℕ)
+  pub told : AreFiles shelf.before names bytes
+  pub calm : IsCalm shelf (length names) (length names)
+  pub place : RunsOut bytes
+
+-- Memory was wanting: before all files of the command were there, or then.
 pub record CutShort (run : Run) : Type 0 where
   pub files : List (List ℕ)
   pub named : named_files run.words ≡ Some files
-  pub count : ℕ
-  pub within : count ≤ length files
-  pub calm : IsCalm run.shelf count
+  pub cause : IsShort run.shelf files ⊎ IsSpent run.shelf files
 
 -- nothing was written, and nothing failed
 pub record IsUntouched (sink : Written) : Type 0 where
@@ -83,13 +94,13 @@ pub record IsCut (sink : Written) (text : List ℕ) : Type 0 where
 -- why not all files were fetched
 abbrev pub StopsFetch : Shelved → List (List ℕ) → End → Type 0
 StopsFetch shelf names (ReadFault file) = IsUnread shelf names file
-StopsFetch shelf names Memory = (count : ℕ) × (count ≤ length names) × IsCalm shelf count
+StopsFetch shelf names Memory = IsShort shelf names
 StopsFetch shelf names end = ⊥
 
--- why files that were fetched have no text: one is refused, and this is its word
+-- why files that were fetched have no text: one is refused, and this is its word; or memory ran out
 abbrev pub StopsChecks : List (List ℕ) → List (List ℕ) → End → Type 0
 StopsChecks names bytes (BadImage file fault) = (number : ℕ) × (names_of names bytes ≡ Err (number, fault)) × (slice_get names (number - 1) ≡ Some file)
-StopsChecks names bytes Memory = Unit {0}
+StopsChecks names bytes Memory = RunsOut bytes
 StopsChecks names bytes end = ⊥
 
 -- A file wasn't read, and this is its word.
@@ -106,7 +117,7 @@ pub record Refused (run : Run) (file : List ℕ) (fault : ImageFault) : Type 0 w
 
 abbrev pub Happened : Run → End → Type 0
 Happened run Done = (text : List ℕ) × Judged run (Ok text) × IsWritten run.out text
-Happened run Usage = (named_files run.words ≡ None) × IsUntouched run.out × IsCalm run.shelf 0
+Happened run Usage = (named_files run.words ≡ None) × IsUntouched run.out × IsCalm run.shelf 0 0
 Happened run (ReadFault file) = Unread run file × IsUntouched run.out
 Happened run (BadImage file fault) = Refused run file fault × IsUntouched run.out
 Happened run WriteFault = (text : List ℕ) × Judged run (Ok text) × IsCut run.out text

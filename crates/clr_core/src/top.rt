@@ -48,7 +48,7 @@ fn run<'a, F: Shelf, O: Sink>(
     ensures happened { Happened
         (record {
           words = texts_of words.now;
-          shelf = shelved F.files F.calls F.faults shelf.old shelf.new;
+          shelf = shelved F.files F.calls F.given F.faults shelf.old shelf.new;
           out = written O.content O.faults out.old out.new;
         })
         (end_of result) }
@@ -76,7 +76,7 @@ fn answer<F: Shelf, O: Sink, E: Sink>(
     ensures { EndsWith
         (record {
           words = texts_of words.now;
-          shelf = shelved F.files F.calls F.faults shelf.old shelf.new;
+          shelf = shelved F.files F.calls F.given F.faults shelf.old shelf.new;
           out = written O.content O.faults out.old out.new;
         })
         (written E.content E.faults err.old err.new)
@@ -93,7 +93,8 @@ fn answer<F: Shelf, O: Sink, E: Sink>(
 
 /// Does what the words say, for the commands that need no threads. At `Done` the whole text is appended to `out`. At any
 /// other status a line is appended to `err`, and `out` is as it was, but for a prefix of the text at `WriteFault`. `Memory`
-/// may come at any time before the write.
+/// may come at any time before the write; once all files are there, only behind the checks of the first one's headers,
+/// streams and tables.
 pub fn clr_quiet<F: Shelf, O: Sink, E: Sink>(
     alloc: Global,
     words: &[String],
@@ -104,7 +105,7 @@ pub fn clr_quiet<F: Shelf, O: Sink, E: Sink>(
     ensures { Answers
         (record {
           words = texts_of words.now;
-          shelf = shelved F.files F.calls F.faults shelf.old shelf.new;
+          shelf = shelved F.files F.calls F.given F.faults shelf.old shelf.new;
           out = written O.content O.faults out.old out.new;
         })
         (written E.content E.faults err.old err.new)
@@ -127,7 +128,7 @@ pub fn clr<R: Threads + Sync, F: Shelf, O: Sink, E: Sink, G: Gate + Sync>(
     ensures { Answers
         (record {
           words = texts_of words.now;
-          shelf = shelved F.files F.calls F.faults shelf.old shelf.new;
+          shelf = shelved F.files F.calls F.given F.faults shelf.old shelf.new;
           out = written O.content O.faults out.old out.new;
         })
         (written E.content E.faults err.old err.new)

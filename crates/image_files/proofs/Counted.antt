@@ -1,11 +1,14 @@
 -- Sums of counts that stop where they are too many, and the local variables of one row more.
-use Rattle.std.proofs.Common.{◌≡◌, ℕ, ◌+◌, ◌<◌, ◌≤◌, ◌⊎◌, inl, inr, List, [], length, Result, Ok, Err, refl, sym, ap, ap₂, ◌∙◌, arith}
+use Rattle.std.proofs.Common.{◌≡◌, ℕ, ◌+◌, ◌<◌, ◌≤◌, ◌⊎◌, inl, inr, Bool, true, false, cond, List, [], length, Some, None, unwrap_or, Result, Ok, Err, is_ok, refl, sym, ap, ap₂, subst, ◌∙◌, arith}
 use Rattle.std.proofs.Math.Nat.{min-eq_left, min-eq_right, min-le_right}
-use Rattle.cli_sigs.specs.declared.fault.SigFault.{SigFault}
-use Rattle.cli_sigs.specs.Signatures.{counted}
 use Rattle.cli_tables.specs.Metadata.{Metadata}
-use Rattle.image_rows.specs.Blobs.{value_or}
-use Rattle.image_rows.specs.Cells.{rows, at}
+use Rattle.cli_sigs.specs.declared.signature.RowCounts.{RowCounts}
+use Rattle.cli_sigs.specs.declared.signature.SigTy.{SigTy}
+use Rattle.cli_sigs.specs.Signatures.{placed, locals_at}
+use Rattle.image_rows.specs.Blobs.{begins_with, row_counts, value_or}
+use Rattle.image_rows.specs.Cells.{rows, at, blob_by}
+use Rattle.image_rows.specs.SignatureChecks.{is_signature, is_signature_by}
+use Rattle.image_rows.specs.declared.signature_checks.SigKind.TheVariants as kind
 use Rattle.image_files.specs.Counts.{too_many, capped, local_count, all_locals}
 use Rattle.image_files.specs.Signatures.{listed, locals_by, locals_in, locals_before}
 use Rattle.image_files.proofs.LocalsCount.{locals_more}
@@ -34,17 +37,33 @@ capped_sum a b x y a_is b_is =
       | inr x_many ↦ stops (a + b) (omega (arith, a_is, stops x x_many)) ∙ sym (stops (x + y) (omega arith))
     ]
 
--- ---- lists that are read and lists that are counted
+-- ---- lists that are read and lists that are told
 
-pub counted_some : {X : Type 0} (held : Result (List X) ℕ) (n : ℕ) → Ok n ≡ counted held → length (value_or [] held) ≡ n
-counted_some (Ok xs) n e = cc
-counted_some (Err place) n e = absurd cc
+-- a blob that passes its check, by whether it begins as locals do and by what it holds
+pub told_of : {X : Type 0} (begins : Bool) (held : Result (List X) ℕ) (told : ℕ) → begins ≡ true → cond begins (is_ok held) true ≡ true
+    → ((xs : List X) → held ≡ Ok xs → told ≡ length xs) → capped told ≡ capped (length (unwrap_or (cond begins (Some (value_or [] held)) None) []))
+told_of true (Ok xs) told b e is = ap capped (is xs refl)
+told_of true (Err place) told b e is = absurd cc
+told_of false held told b e is = absurd cc
 
-pub counted_none : {X : Type 0} (held : Result (List X) ℕ) (fault : SigFault) → Err fault ≡ counted held → length (value_or [] held) ≡ 0
-counted_none (Ok xs) fault e = absurd cc
-counted_none (Err place) fault e = refl
+pub not_told : {X : Type 0} (begins : Bool) (held : Result (List X) ℕ) → begins ≡ false → 0 ≡ capped (length (unwrap_or (cond begins (Some (value_or [] held)) None) []))
+not_told true held b = absurd cc
+not_told false held b = refl
 
-pub ruleset counted_list = (counted_some, counted_none)
+-- the same of the blob at an index
+pub told_there : (m : Metadata) (index told : ℕ) (blob : List ℕ) → blob ≡ blob_by m index → begins_with 0x07 blob ≡ true → is_signature_by m kind.Locals index ≡ true
+    → ((counts : RowCounts) (xs : List SigTy) → placed blob (locals_at counts blob) ≡ Ok xs → told ≡ length xs) → capped told ≡ local_count m index
+unfolding local_count locals_by is_signature_by is_signature
+told_there m index told blob is begins signed listed =
+    told_of (begins_with 0x07 (blob_by m index)) (placed (blob_by m index) (locals_at (row_counts m) (blob_by m index))) told
+    (ap (λ (b : List ℕ). begins_with 0x07 b) (sym is) ∙ begins) signed
+    (λ xs e. listed (row_counts m) xs (subst (λ (b : List ℕ). placed b (locals_at (row_counts m) b) ≡ Ok xs) (sym is) e))
+
+pub not_there : (m : Metadata) (index : ℕ) (blob : List ℕ) → blob ≡ blob_by m index → begins_with 0x07 blob ≡ false → 0 ≡ local_count m index
+unfolding local_count locals_by
+not_there m index blob is begins =
+    not_told (begins_with 0x07 (blob_by m index)) (placed (blob_by m index) (locals_at (row_counts m) (blob_by m index)))
+    (ap (λ (b : List ℕ). begins_with 0x07 b) (sym is) ∙ begins)
 
 -- ---- local variables
 

@@ -1,5 +1,5 @@
 -- Several files: the metadata of all, or the first fault of the first of them that has one.
-use Rattle.std.specs.Prelude.{◌≡◌, ℕ, ◌+◌, List, [], ◌∷◌, ◌++◌, map, length, Result, Ok, Err, Vec}
+use Rattle.std.specs.Prelude.{◌≡◌, ℕ, ◌+◌, List, [], ◌∷◌, ◌++◌, map, length, take, slice_get, Some, Result, Ok, Err, IsOk, Vec}
 use Rattle.std.specs.declared.alloc.Global.{Global}
 use Rattle.clr_base.specs.declared.image_fault.ImageFault.{ImageFault}
 use Rattle.clr_base.specs.Checks.{Check, outcome, first_fault}
@@ -7,7 +7,7 @@ use Rattle.cli_tables.specs.Metadata.{Metadata}
 use Rattle.image_files.specs.declared.images.ImagesFault.{ImagesFault}
 use Rattle.image_files.specs.declared.images.ImagesFault.TheVariants.{Image, Memory}
 use Rattle.image_files.specs.Counts.{totals_of, count_checks}
-use Rattle.image_rows.specs.Image.{metadata_in, image_checks}
+use Rattle.image_rows.specs.Image.{metadata_in, image_checks, tables_of}
 
 -- the bytes of each file
 abbrev pub bytes_of_each : List (Vec ℕ Global) → List (List ℕ)
@@ -44,3 +44,12 @@ abbrev pub GivesImages : Result (List Metadata) ImagesFault → Result (List Met
 GivesImages (Ok images) wanted = wanted ≡ Ok images
 GivesImages (Err (Image number fault)) wanted = wanted ≡ Err (number, fault)
 GivesImages (Err Memory) wanted = Unit {0}
+
+-- Memory ran out at one of the files: those before it pass all their checks, and it passes those of headers, streams and
+-- tables, which come first and take no memory.
+pub record RanOut (files : List (List ℕ)) : Type 0 where
+  pub place : ℕ
+  pub file : List ℕ
+  pub is : slice_get files place ≡ Some file
+  pub passed : images_of (take place files) ≡ Ok (tables_in (take place files))
+  pub placed : IsOk (tables_of file)

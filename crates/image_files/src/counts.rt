@@ -1,20 +1,17 @@
 //! How many definitions, methods, fields and signatures files give a world, and whether tokens can number them.
-ghost use Rattle.std.specs.Prelude.{◌≡◌, [], true, IfOk, OnOk};
+ghost use Rattle.std.specs.Prelude.{◌≡◌, [], true, IfOk};
 ghost use Rattle.clr_base.specs.Checks.{outcome};
 ghost use Rattle.image_files.specs.Counts as spec;
-ghost use Rattle.image_rows.specs.Refusals.{GivesOutcome};
-ghost use Rattle.image_rows.specs.SignatureChecks.{AreNotes};
+ghost use Rattle.image_rows.specs.SignatureChecks.{AreSigned, is_signature_by};
+ghost use Rattle.image_rows.specs.declared.signature_checks.SigKind.TheVariants as kind;
 
 use crate::signatures::row_sigs;
-use cli_sigs::count_locals;
+use cli_sigs::told_locals;
 use cli_tables::Tables;
-use clr_base::{CORE_DEF_COUNT, CORE_METHOD_COUNT, CORE_SIG_COUNT, FaultKind, Memory, check};
+use clr_base::{CORE_DEF_COUNT, CORE_METHOD_COUNT, CORE_SIG_COUNT, FaultKind, ImageFault, check};
 use image_rows::{
-    FIELD, LOCALS_CODE, METHOD_DEF, Refusal, STAND_ALONE_SIG, TYPE_DEF, begins_with, blob_by,
-    row_counts, token,
+    FIELD, LOCALS_CODE, METHOD_DEF, STAND_ALONE_SIG, TYPE_DEF, begins_with, blob_by, token,
 };
-use indexmap::IndexMap;
-use std::alloc::Global;
 
 /// The most that tokens can number (ECMA-335 III.1.9: a token has 24 bits for a row).
 const MOST: u32 = 16_777_215;
@@ -28,52 +25,35 @@ pub struct Totals {
     pub sigs: u32,
 }
 
-/// How many local variables the blob at an index lists, up to one too many.
-#[tactic(auto, unfolding(crate::specs::Counts::local_count, crate::specs::Signatures::locals_by), using(crate::proofs::Counted::counted_list))]
-fn count_by(tables: &Tables<'_>, index: u32) -> u32
+/// How many local variables the blob at an index lists, up to one too many. It is asked only of a blob that passes its
+/// check, and so tells it before their types.
+fn local_count(tables: &Tables<'_>, index: u32) -> u32
+    requires { is_signature_by tables.now kind.Locals index ≡ true }
     ensures { result ≡ spec.local_count tables.now index }
 {
     let blob = blob_by(tables, index);
-    if !begins_with(LOCALS_CODE, blob) {
-        return 0;
+    let begins = begins_with(LOCALS_CODE, blob);
+    if begins {
+        let told = told_locals(blob);
+        told.min(MOST + 1)
+    } else {
+        0
     }
-    match count_locals(blob, &row_counts(tables)) {
-        Ok(count) => count.min(MOST + 1),
-        Err(_) => 0,
-    }
-}
-
-/// The same, by its note where there is one.
-fn local_count(
-    tables: &Tables<'_>,
-    noted: &mut IndexMap<u32, u32>,
-    index: u32,
-) -> Result<u32, Memory>
-    requires { AreNotes (spec.local_count tables.now) noted.old }
-    ensures exact { IfOk result (λ count. count ≡ spec.local_count tables.now index) }
-    ensures noted { OnOk result (AreNotes (spec.local_count tables.now) noted.new) }
-{
-    if let Some(count) = noted.get(&index) {
-        return Ok(*count);
-    }
-    let count = count_by(tables, index);
-    noted.insert(index, count)?;
-    Ok(count)
 }
 
 /// How many local variables the rows of StandAloneSig list, up to one too many.
 #[tactic(auto, unfolding(cli_tables::specs::Schema::columns))]
-fn all_locals(alloc: Global, tables: &Tables<'_>) -> Result<u32, Memory>
-    ensures { IfOk result (λ count. count ≡ spec.all_locals tables.now) }
+fn all_locals(tables: &Tables<'_>) -> u32
+    requires { AreSigned tables.now }
+    ensures { result ≡ spec.all_locals tables.now }
 {
-    let mut noted = IndexMap::new(alloc);
     let mut total = 0;
     for row in 0..tables.row_count(STAND_ALONE_SIG) {
         let index = tables.cell(STAND_ALONE_SIG, row + 1, 0);
-        let count = local_count(tables, &mut noted, index)?;
+        let count = local_count(tables, index);
         total = (total + count).min(MOST + 1);
     }
-    Ok(total)
+    total
 }
 
 impl Totals {
@@ -100,34 +80,33 @@ impl Totals {
     }
 
     /// Those with one file more; where they are too many, the signatures may be fewer, but are still too many.
-    fn with_file(self, alloc: Global, tables: &Tables<'_>) -> Result<Totals, Memory>
-        requires { spec.are_few self ≡ true }
-        ensures few { IfOk result (λ t. spec.are_few t ≡ spec.are_few (spec.with_file self tables.now)) }
-        ensures exact { IfOk result (λ t. spec.are_few t ≡ true → t ≡ spec.with_file self tables.now) }
+    fn with_file(self, tables: &Tables<'_>) -> Totals
+        requires few { spec.are_few self ≡ true }
+        requires signed { AreSigned tables.now }
+        ensures few { spec.are_few result ≡ spec.are_few (spec.with_file self tables.now) }
+        ensures exact { spec.are_few result ≡ true → result ≡ spec.with_file self tables.now }
     {
-        let locals = all_locals(alloc, tables)?;
-        Ok(Totals {
+        let locals = all_locals(tables);
+        Totals {
             defs: self.defs + tables.row_count(TYPE_DEF),
             methods: self.methods + tables.row_count(METHOD_DEF),
             fields: self.fields + tables.row_count(FIELD),
             sigs: self.sigs + row_sigs(tables) + locals,
-        })
+        }
     }
 }
 
-/// The check of a file's counts, by those of the core library and of the files before it; and the counts with its own.
-/// Takes memory for a note of each list of local variables, and time in the rows of StandAloneSig and the length of these
-/// lists.
-pub(crate) fn count_file(
-    alloc: Global,
-    totals: Totals,
-    tables: &Tables<'_>,
-) -> Result<Totals, Refusal>
-    requires { spec.are_few totals ≡ true }
-    ensures exact { GivesOutcome result (outcome (spec.count_checks (spec.with_file totals tables.now)) (spec.with_file totals tables.now)) }
+/// The check of a file's counts, by those of the core library and of the files before it; and the counts with its own. The
+/// file's signatures pass their checks. Takes no memory, and time in the rows of StandAloneSig.
+pub(crate) fn count_file(totals: Totals, tables: &Tables<'_>) -> Result<Totals, ImageFault>
+    requires few { spec.are_few totals ≡ true }
+    requires signed { AreSigned tables.now }
+    ensures exact { result ≡ outcome (spec.count_checks (spec.with_file totals tables.now)) (spec.with_file totals tables.now) }
     ensures few { IfOk result (λ t. spec.are_few t ≡ true) }
 {
-    let totals = totals.with_file(alloc, tables)?;
-    check(totals.are_few(), FaultKind::TooMany, token(0x00, 1))?;
-    Ok(totals)
+    let totals = totals.with_file(tables);
+    match check(totals.are_few(), FaultKind::TooMany, token(0x00, 1)) {
+        Ok(()) => Ok(totals),
+        Err(fault) => Err(fault),
+    }
 }

@@ -1,8 +1,9 @@
 //! Several files.
-ghost use Rattle.std.specs.Prelude.{◌≡◌, ◌<◌, ◌^◌, All, List, length, true, IfOk, OnOk};
+ghost use Rattle.std.specs.Prelude.{◌≡◌, ◌<◌, ◌^◌, All, List, length, true, IfOk, IsErrOf, IsOk, OnOk};
 ghost use Rattle.cli_tables.specs.Metadata.{Metadata};
 ghost use Rattle.image_files.specs.Counts.{are_few, totals_of, with_file};
-ghost use Rattle.image_files.specs.Images.{GivesImages, bytes_of_each, images_of, next_image_of};
+ghost use Rattle.image_files.specs.Images.{GivesImages, RanOut, bytes_of_each, images_of, next_image_of};
+ghost use Rattle.image_rows.specs.Image.{tables_of};
 ghost use Rattle.image_rows.specs.Refusals.{GivesOutcome};
 ghost use Rattle.image_rows.specs.Rows.{ArePassed};
 ghost use Rattle.image_rows.specs.SignatureChecks.{AreSigned};
@@ -42,21 +43,23 @@ fn next_image<'a>(
 ) -> Result<Tables<'a>, Refusal>
     requires few { are_few totals.old ≡ true }
     ensures exact { (before : List Metadata) → totals.old ≡ totals_of before → GivesOutcome result (next_image_of before bytes.now) }
+    ensures memory { IsErrOf result Refusal.Memory → IsOk (tables_of bytes.now) }
     ensures totals { IfOk result (λ image. totals.new ≡ with_file totals.old image) }
     ensures few { OnOk result (are_few totals.new ≡ true) }
     ensures rows { IfOk result (λ image. ArePassed image) }
     ensures signatures { IfOk result (λ image. AreSigned image) }
 {
     let image = read_image(alloc, bytes)?;
-    *totals = count_file(alloc, *totals, &image)?;
+    *totals = count_file(*totals, &image)?;
     Ok(image)
 }
 
 /// The metadata of files that all pass their checks, or the first fault of the first of them that has one. Takes the memory
-/// and the time that the checks of each take.
+/// and the time that the checks of each take; the first of these, of headers, streams and tables, take no memory.
 pub fn read_images(alloc: Global, files: &[Vec<u8>]) -> Result<Items<Tables<'_>>, ImagesFault>
     requires few { length files.now < 2 ^ 32 }
     ensures exact { GivesImages result (images_of (bytes_of_each files.now)) }
+    ensures memory { IsErrOf result ImagesFault.Memory → RanOut (bytes_of_each files.now) }
     ensures all { IfOk result (λ images. images ≡ tables_in (bytes_of_each files.now)) }
     ensures rows { IfOk result (All ArePassed) }
     ensures signatures { IfOk result (All AreSigned) }

@@ -3,7 +3,6 @@ use Rattle.std.proofs.Common.{◌≡◌, ℕ, zero, suc, ◌+◌, ◌<◌, Bool,
 use Rattle.std.specs.List.{flat_map}
 use Rattle.std.proofs.lemmas.Grind.{flat_map-append}
 use Rattle.std.proofs.lemmas.List.{drop_more, take_more, take-append-drop}
-use Rattle.indexmap.specs.IndexMap.{IndexMap}
 use Rattle.clr_base.specs.declared.image_fault.ImageFault.{ImageFault}
 use Rattle.clr_base.specs.declared.image_fault.FaultKind.TheVariants.{BadSignature}
 use Rattle.clr_base.specs.Checks.{Check, check, first_fault}
@@ -15,7 +14,7 @@ use Rattle.image_rows.specs.declared.signature_checks.SigColumn.{SigColumn}
 use Rattle.image_rows.specs.declared.signature_checks.TheConstants.{SIG_COLUMNS}
 use Rattle.image_rows.specs.Cells.{at}
 use Rattle.image_rows.specs.Rows.{token}
-use Rattle.image_rows.specs.SignatureChecks.{is_signature_by, row_signature_checks, AreNotes}
+use Rattle.image_rows.specs.SignatureChecks.{is_signature_by, row_signature_checks}
 
 -- ---- checks of each of some things, one after another
 
@@ -46,11 +45,6 @@ columns_are_there (suc (suc (suc zero))) d within = omega arith
 columns_are_there (suc (suc (suc (suc zero)))) d within = omega arith
 columns_are_there (suc (suc (suc (suc (suc zero))))) d within = omega arith
 columns_are_there (suc (suc (suc (suc (suc (suc k)))))) d within = absurd (omega arith)
-
--- ---- notes
-
-pub no_notes : {V S : Type 0} (of : ℕ → V) (noted : IndexMap ℕ V S) → noted.entries ≡ [] → AreNotes of noted
-no_notes of noted empty = record { each = λ index. rw empty tt }
 
 -- ---- one blob
 

@@ -1,9 +1,7 @@
 -- The checks of a file's signatures, in order (ECMA-335 II.23.2): column by column, row by row. They stand behind the checks
 -- of rows, so each blob is there. The place of a fault is the token of the row.
-use Rattle.std.specs.Prelude.{◌≡◌, ℕ, ◌+◌, List, [], ◌∷◌, Bool, true, is_ok, nat_eq, if◌then◌else◌}
+use Rattle.std.specs.Prelude.{◌≡◌, ℕ, ◌+◌, List, [], ◌∷◌, Bool, true, is_ok, if◌then◌else◌}
 use Rattle.std.specs.List.{flat_map}
-use Rattle.std.specs.Option.{IfSome}
-use Rattle.indexmap.specs.IndexMap.{IndexMap, get}
 use Rattle.clr_base.specs.declared.image_fault.FaultKind.TheVariants.{BadSignature}
 use Rattle.clr_base.specs.Checks.{Check, check, each, first_fault, none_of}
 use Rattle.cli_sigs.specs.declared.signature.RowCounts.{RowCounts}
@@ -45,7 +43,3 @@ signature_checks m = flat_map (column_signature_checks m) SIG_COLUMNS
 -- all signatures pass
 abbrev pub AreSigned : Metadata → Type 0
 AreSigned m = first_fault (signature_checks m) ≡ none_of
-
--- what is noted at an index is what a function gives there
-pub record AreNotes {V S : Type 0} (of : ℕ → V) (noted : IndexMap ℕ V S) : Type 0 where
-  pub each : (index : ℕ) → IfSome (get nat_eq noted index) (λ v. v ≡ of index)

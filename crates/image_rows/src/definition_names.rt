@@ -24,14 +24,10 @@ const NAMESPACE: u8 = 2;
 pub(crate) fn qualified(alloc: Global, namespace: &str, name: &str) -> Result<Text, Memory>
     ensures { IfOk result (λ text. text ≡ spec.qualified namespace.now name.now) }
 {
-    let room = namespace.len().saturating_add(1).saturating_add(name.len());
-    let mut text = Text::with_capacity(alloc, room)?;
-    text.push_str(namespace)?;
-    if !namespace.is_empty() {
-        text.push_str(".")?;
+    if namespace.is_empty() {
+        return Ok(Text::from_str(alloc, name)?);
     }
-    text.push_str(name)?;
-    Ok(text)
+    Ok(Text::joined(alloc, namespace, ".", name)?)
 }
 
 /// Appends the name of a type that stands in the one whose name the text is.
@@ -47,11 +43,7 @@ pub(crate) fn push_nested(text: &mut Text, name: &str) -> Result<(), Memory>
 fn nested(alloc: Global, around: &str, name: &str) -> Result<Text, Memory>
     ensures { IfOk result (λ text. text ≡ around.now ++ codes "+" ++ name.now) }
 {
-    let room = around.len().saturating_add(1).saturating_add(name.len());
-    let mut text = Text::with_capacity(alloc, room)?;
-    text.push_str(around)?;
-    push_nested(&mut text, name)?;
-    Ok(text)
+    Ok(Text::joined(alloc, around, "+", name)?)
 }
 
 /// The full name of the definition in a row, by those of the definitions before it. `outer` is the row of the definition

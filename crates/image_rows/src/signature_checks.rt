@@ -93,9 +93,32 @@ fn is_signature(counts: &RowCounts, kind: SigKind, blob: &[u8]) -> bool
     }
 }
 
-/// Whether the blob at an index is a signature of a kind. It is checked where the index isn't noted yet. An empty blob isn't
-/// noted, so that notes reach no further than the heap.
+/// Whether the blob at an index is a signature of a kind, by a check. The index of one that is a signature is noted, but not of
+/// an empty blob, so that notes reach no further than the heap.
+// Most indexes of a column are noted, so the check stays out of the loop over its rows.
+#[inline(never)]
 #[tactic(auto, unfolding(crate::specs::SignatureChecks::is_signature_by))]
+fn check_and_note(
+    tables: &Tables<'_>,
+    counts: &RowCounts,
+    kind: SigKind,
+    noted: &mut Vec<u8>,
+    index: u32,
+) -> Result<bool, AllocError>
+    requires counts { counts.now ≡ blobs.row_counts tables.now }
+    requires noted { HavePassed (spec.is_signature_by tables.now kind) noted.old.items }
+    ensures exact { IfOk result (λ good. good ≡ spec.is_signature_by tables.now kind index) }
+    ensures noted { OnOk result (HavePassed (spec.is_signature_by tables.now kind) noted.new.items) }
+{
+    let blob = blob_by(tables, index);
+    let good = is_signature(counts, kind, blob);
+    if good && !blob.is_empty() {
+        note(noted, index)?;
+    }
+    Ok(good)
+}
+
+/// Whether the blob at an index is a signature of a kind. It is checked where the index isn't noted yet.
 fn is_signature_by(
     tables: &Tables<'_>,
     counts: &RowCounts,
@@ -111,15 +134,11 @@ fn is_signature_by(
     if is_noted(noted, index) {
         return Ok(true);
     }
-    let blob = blob_by(tables, index);
-    let good = is_signature(counts, kind, blob);
-    if good && !blob.is_empty() {
-        note(noted, index)?;
-    }
-    Ok(good)
+    check_and_note(tables, counts, kind, noted, index)
 }
 
 /// The signatures in a column, row by row. Takes time in the rows and in the length of the blobs at different indexes.
+#[inline(never)]
 #[tactic(auto, unfolding(crate::specs::SignatureChecks::column_signature_checks, crate::specs::SignatureChecks::row_signature_checks))]
 fn check_column(alloc: Global, tables: &Tables<'_>, column: SigColumn) -> Result<(), Refusal>
     requires { column.column < length (columns column.table) }

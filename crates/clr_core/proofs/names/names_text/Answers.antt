@@ -1,4 +1,4 @@
-use Rattle.std.proofs.Common.{ℕ, ◌+◌, ◌++◌, ◌∙◌, List, Some, ap, sym, arith}
+use Rattle.std.proofs.Common.{ℕ, ◌++◌, ◌∙◌, List, Some, ap, sym, arith}
 use Rattle.std.proofs.lemmas.Option.{slice_get-get_or}
 use Rattle.cli_tables.specs.Metadata.{Metadata}
 use Rattle.clr_core.specs.Command.{texts_of}

@@ -1,10 +1,10 @@
-use Rattle.std.proofs.Common.{◌<◌, ◌∙◌, ℕ, ◌-◌, List, [], Some, get_or, sym, ap, arith, length}
+use Rattle.std.proofs.Common.{inl, Err, ◌<◌, ◌∙◌, ℕ, ◌-◌, List, Some, get_or, sym, ap, arith, length}
 use Rattle.std.proofs.lemmas.List.{length-map}
 use Rattle.image_files.specs.Images.{bytes_of_each}
 use Rattle.clr_core.specs.Command.{texts_of}
 use Rattle.clr_core.specs.Names.{names_text}
 use Rattle.clr_core.proofs.Checking.{given_image, number_within, files_fault, files_text}
-use Rattle.clr_core.proofs.FileWords.{as_many, word_found}
+use Rattle.clr_core.proofs.FileWords.{word_found}
 use Rattle.clr_core.proofs.top.text_of.Goals as goal
 
 pub overflow_sub-number : goal.overflow_sub-number
@@ -40,6 +40,9 @@ returns-in-Err-Image-clause-stopped c =
           (c.index-names-number.is ∙ ap (λ (n : ℕ). get_or names (n - 1) c.index-names-number.result) c.in-Err-Image.number-is)
           ∙ ap (λ (word : List ℕ). Some word) (sym c.as_str.ensures.value),
     )
+
+pub returns-in-Err-Memory-clause-stopped : goal.returns-in-Err-Memory-clause-stopped
+returns-in-Err-Memory-clause-stopped c = inl (c.in-Err-Memory.ensures.memory (ap (λ e. Err e) c.in-Err-Memory.field-0-is))
 
 pub returns-in-Ok-names_text-clause-text : goal.returns-in-Ok-names_text-clause-text
 returns-in-Ok-names_text-clause-text c =
