@@ -90,7 +90,7 @@ width_shape w id size e = sym (ap good e) ∙ by (slice_get w.defs id.0)
         file true = width_good id.0
         file false = refl
 
-exists_at : {A : Type 0} (xs : List A) (i : ℕ) → i < length xs → (x : A) × (slice_get xs i ≡ Some x)
+pub exists_at : {A : Type 0} (xs : List A) (i : ℕ) → i < length xs → (x : A) × (slice_get xs i ≡ Some x)
 exists_at [] i h = absurd (omega arith)
 exists_at (x ∷ xs) zero h = (x, refl)
 exists_at (x ∷ xs) (suc i) h = exists_at xs i (omega arith)

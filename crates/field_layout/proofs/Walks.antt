@@ -22,30 +22,30 @@ use Rattle.field_layout.specs.declared.notes.Found.{Found}
 use Rattle.field_layout.specs.declared.notes.Found.TheVariants.{Settled, Deep}
 use Rattle.field_layout.specs.declared.fields.Fields.{Fields}
 use Rattle.field_layout.specs.Shapes.{Shapes, All, SomeDeep, SomeBad, field_shape, together, is_deep, is_bad, shapes_of}
-use Rattle.field_layout.specs.Notes.{Notes, IsNote, IsNoteOf, AllNoted, IsFound, Fits, Kept, in_room, noted_shape, noted_is_shape, settled_shapes, IsFields, TypesAre, added}
+use Rattle.field_layout.specs.Notes.{ShapeNotes, NotesOf, AllOf, IsNote, IsNoteOf, AllNoted, IsFound, Fits, Kept, in_room, noted_shape, noted_is_shape, settled_shapes, IsFields, TypesAre, added}
 
 -- ---- notes
 
-pub noted-grown : (w : Facts) (ts us : List Ty) → Grows ts us → (notes : Notes) → AllNoted w ts notes → AllNoted w us notes
-noted-grown w ts us g notes all k n here =
+pub noted-grown : {N : Type 0} (P : Ty → N → Type 0) (ts us : List Ty) → Grows ts us → (notes : NotesOf N) → AllOf P ts notes → AllOf P us notes
+noted-grown P ts us g notes all k n here =
     let was = all k n here in
     let longer = grown_length ts us g in
     record {
       of_pool = let o = was.of_pool in omega arith;
-      note = subst (λ (t : Ty). IsNote w t n) (sym (at-grown ts us g (record { 0 = k }) was.of_pool)) was.note;
+      note = subst (λ (t : Ty). P t n) (sym (at-grown ts us g (record { 0 = k }) was.of_pool)) was.note;
     }
 
-noted_more : (w : Facts) (ts : List Ty) (old new : Notes) (k : ℕ) (n : Note) → AllNoted w ts old → IsNoteOf w ts k n → Updates nat_eq old new k (Some n) → AllNoted w ts new
-noted_more w ts old new k n all is updates q m here = elim (cases_Bool (nat_eq k q)) [
+pub noted_more : {N : Type 0} (P : Ty → N → Type 0) (ts : List Ty) (old new : NotesOf N) (k : ℕ) (n : N) → AllOf P ts old → IsNoteOf P ts k n → Updates nat_eq old new k (Some n) → AllOf P ts new
+noted_more {N = N} P ts old new k n all is updates q m here = elim (cases_Bool (nat_eq k q)) [
   | inl e ↦ let same : k ≡ q = eqb-true k q e in
       let value : n ≡ m = let s : Some n ≡ Some m = sym (ap (λ b. cond b (Some n) (get nat_eq old q)) e) ∙ sym (updates.0 q) ∙ here in cc in
-      subst (λ (j : ℕ). IsNoteOf w ts j m) same (subst (λ (v : Note). IsNoteOf w ts k v) value is)
+      subst (λ (j : ℕ). IsNoteOf P ts j m) same (subst (λ (v : N). IsNoteOf P ts k v) value is)
   | inr e ↦ all q m (sym (ap (λ b. cond b (Some n) (get nat_eq old q)) e) ∙ sym (updates.0 q) ∙ here)
 ]
 
-pub kept : (w : Facts) (ts : List Ty) (old new : Notes) (id : Id) (room : ℕ) (found : Found) → AllNoted w ts old → id.0 < length ts → IsFound w (at ts id) room found → Kept old new id.0 found → AllNoted w ts new
-kept w ts old new id room (Settled n) all within is k = noted_more w ts old new id.0 n all (record { of_pool = within; note = is.note }) k
-kept w ts old new id room Deep all within is k = subst (λ (m : Notes). AllNoted w ts m) (sym k) all
+pub kept : (w : Facts) (ts : List Ty) (old new : ShapeNotes) (id : Id) (room : ℕ) (found : Found) → AllNoted w ts old → id.0 < length ts → IsFound w (at ts id) room found → Kept old new id.0 found → AllNoted w ts new
+kept w ts old new id room (Settled n) all within is k = noted_more (IsNote w) ts old new id.0 n all (record { of_pool = within; note = is.note }) k
+kept w ts old new id room Deep all within is k = subst (λ (m : ShapeNotes). AllNoted w ts m) (sym k) all
 
 pub found_in_room : (w : Facts) (t : Ty) (n : Note) (room : ℕ) → IsNote w t n → IsFound w t room (in_room n room)
 found_in_room w t n room is = elim (cases_Bool (nat_le n.need room)) [
@@ -175,7 +175,7 @@ all_shapes w us room need good shapes are = record {
 
 -- ---- the loop
 
-pub record Shaping (w : Facts) (ts0 : List Ty) (ids : List Id) (room i : ℕ) (ts : List Ty) (notes : Notes) (f : Fields) : Type 0 where
+pub record Shaping (w : Facts) (ts0 : List Ty) (ids : List Id) (room i : ℕ) (ts : List Ty) (notes : ShapeNotes) (f : Fields) : Type 0 where
   pub below : ids_below (length ts0) (drop i ids) ≡ true
   pub grows : Grows ts0 ts
   pub noted : AllNoted w ts notes
@@ -189,7 +189,7 @@ any_deep f ts (x ∷ xs) (suc i) d h e = or_true (is_deep (f (at ts x))) (list_a
 pub stops_deep : (w : Facts) (ts : List Ty) (ids : List Id) (room i : ℕ) (d : Id) → i < length ids → field_shape room w (at ts (get_or ids i d)) ≡ answer.Deep → together (map (field_shape room w) (at_all ts ids)) ≡ SomeDeep
 stops_deep w ts ids room i d h e = rw (any_deep (field_shape room w) ts ids i d h e) refl
 
-pub shaping_first : (w : Facts) (ts0 : List Ty) (ids : List Id) (room : ℕ) (notes : Notes) → ids_below (length ts0) ids ≡ true → AllNoted w ts0 notes → Shaping w ts0 ids room 0 ts0 notes (record { need = 0; good = true; shapes = [] })
+pub shaping_first : (w : Facts) (ts0 : List Ty) (ids : List Id) (room : ℕ) (notes : ShapeNotes) → ids_below (length ts0) ids ≡ true → AllNoted w ts0 notes → Shaping w ts0 ids room 0 ts0 notes (record { need = 0; good = true; shapes = [] })
 shaping_first w ts0 ids room notes below all = record {
   below = below;
   grows = grows_refl ts0;
@@ -197,7 +197,7 @@ shaping_first w ts0 ids room notes below all = record {
   shapes = no_shapes w room;
 }
 
-module _ (w : Facts) (ts0 : List Ty) (ids : List Id) (room i : ℕ) (ts : List Ty) (notes : Notes) (f : Fields) (was : Shaping w ts0 ids room i ts notes f) (inside : i < length ids) (d : Id) where
+module _ (w : Facts) (ts0 : List Ty) (ids : List Id) (room i : ℕ) (ts : List Ty) (notes : ShapeNotes) (f : Fields) (was : Shaping w ts0 ids room i ts notes f) (inside : i < length ids) (d : Id) where
   pub here_below : (get_or ids i d).0 < length ts0
   here_below = below_at (length ts0) ids i d inside was.below
 
@@ -207,7 +207,7 @@ module _ (w : Facts) (ts0 : List Ty) (ids : List Id) (room i : ℕ) (ts : List T
   pub here_same : at ts (get_or ids i d) ≡ at ts0 (get_or ids i d)
   here_same = at-grown ts0 ts was.grows (get_or ids i d) here_below
 
-  pub shaping_next : (us : List Ty) (new : Notes) (depth : ℕ) (shape : Option Shape) (g : Fields) → Grows ts us → AllNoted w us new → Fits w (at ts (get_or ids i d)) room (record { need = depth; shape = shape })
+  pub shaping_next : (us : List Ty) (new : ShapeNotes) (depth : ℕ) (shape : Option Shape) (g : Fields) → Grows ts us → AllNoted w us new → Fits w (at ts (get_or ids i d)) room (record { need = depth; shape = shape })
       → g ≡ added f (record { need = depth; shape = shape }) → Shaping w ts0 ids room (i + 1) us new g
   shaping_next us new depth shape g grows all is e =
       let there : Fits w (at ts0 (get_or ids i d)) room (record { need = depth; shape = shape }) = subst (λ (t : Ty). Fits w t room (record { need = depth; shape = shape })) here_same is in

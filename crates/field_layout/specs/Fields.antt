@@ -9,6 +9,7 @@ use Rattle.type_tree.specs.Subst.{subst_ty}
 use Rattle.field_places.specs.declared.shape.Arrangement.{Arrangement}
 use Rattle.field_places.specs.declared.shape.Arrangement.TheVariants.{Auto, Sequential, Explicit}
 use Rattle.field_places.specs.declared.layout.Rules.{Rules}
+use Rattle.field_layout.specs.CoreNumbers.{boolean, char, s_byte, byte, int_16, u_int_16, int_32, u_int_32, int_64, u_int_64, int_ptr, u_int_ptr, single, double, runtime_type_handle, exception}
 
 -- neither static (0x10) nor literal (0x40) (II.23.1.5)
 abbrev pub is_instance : Field → Bool
@@ -45,10 +46,10 @@ is_interface d = not (bit_and d.flags 32 == 0)
 -- the bytes of a built-in value type (I.12.1), and of System.RuntimeTypeHandle, by the core's numbers
 abbrev pub core_width : ℕ → Option ℕ
 core_width n =
-    if n == 4 then Some 1 else if n == 5 then Some 2 else if n == 6 then Some 1 else if n == 7 then Some 1
-    else if n == 8 then Some 2 else if n == 9 then Some 2 else if n == 10 then Some 4 else if n == 11 then Some 4
-    else if n == 12 then Some 8 else if n == 13 then Some 8 else if n == 14 then Some 8 else if n == 15 then Some 8
-    else if n == 16 then Some 4 else if n == 17 then Some 8 else if n == 21 then Some 8 else None
+    if n == boolean then Some 1 else if n == char then Some 2 else if n == s_byte then Some 1 else if n == byte then Some 1
+    else if n == int_16 then Some 2 else if n == u_int_16 then Some 2 else if n == int_32 then Some 4 else if n == u_int_32 then Some 4
+    else if n == int_64 then Some 8 else if n == u_int_64 then Some 8 else if n == int_ptr then Some 8 else if n == u_int_ptr then Some 8
+    else if n == single then Some 4 else if n == double then Some 8 else if n == runtime_type_handle then Some 8 else None
 
 abbrev pub width_of : ℕ → Option Def → Option ℕ
 width_of n None = None
@@ -59,4 +60,4 @@ width w id = width_of id.0 (slice_get w.defs id.0)
 
 -- System.Exception keeps its message, and ends at 16
 abbrev pub is_exception : DefId → Def → Bool
-is_exception id d = d.file == 0 && id.0 == 28
+is_exception id d = d.file == 0 && id.0 == exception

@@ -13,6 +13,8 @@ use Rattle.field_places.specs.declared.shape.Shape.{Shape}
 use Rattle.field_places.specs.Layouts.{own_part}
 use Rattle.field_layout.specs.declared.answer.LayoutAnswer.{LayoutAnswer}
 use Rattle.field_layout.specs.declared.answer.LayoutAnswer.TheVariants.{Laid, Deep, Bad}
+use Rattle.field_layout.specs.declared.ends.ClassEnd.{ClassEnd}
+use Rattle.field_layout.specs.declared.ends.ClassEnd.TheVariants as end
 use Rattle.field_layout.specs.Fields.{given_places, rules_of, is_interface, width, is_exception}
 use Rattle.field_layout.specs.Shapes.{Shapes, All, SomeDeep, SomeBad, own_shapes}
 
@@ -34,12 +36,18 @@ laid_from value w d begin SomeDeep = Deep
 laid_from value w d begin SomeBad = Bad
 laid_from value w d begin (All ss) = answer_of (own_part (rules_of value d) begin (given_places w d) ss)
 
--- a class, where its parent is laid out so; Deep where the parent or a field is, else Bad where either is
-abbrev pub behind : LayoutAnswer → Facts → Def → Shapes → LayoutAnswer
-behind (Laid parent) w d ss = laid_from false w d parent.end ss
-behind Deep w d ss = Deep
-behind Bad w d SomeDeep = Deep
-behind Bad w d _ = Bad
+-- a parent matters by where it ends
+abbrev pub ended : LayoutAnswer → ClassEnd
+ended (Laid l) = end.At l.end
+ended Deep = end.Deep
+ended Bad = end.Bad
+
+-- a class, where its parent ends so; Deep where the parent or a field is, else Bad where either is
+abbrev pub behind : ClassEnd → Facts → Def → Shapes → LayoutAnswer
+behind (end.At begin) w d ss = laid_from false w d begin ss
+behind end.Deep w d ss = Deep
+behind end.Bad w d SomeDeep = Deep
+behind end.Bad w d _ = Bad
 
 -- a class that begins behind the object's first 8 bytes, as where its chain of parents ends with it
 abbrev pub first : LayoutAnswer
@@ -54,21 +62,22 @@ parent_layout above args (Some p) = above (subst_ty args [] p)
 abbrev pub class_at : (Ty → LayoutAnswer) → Facts → DefId → Def → List Ty → LayoutAnswer
 class_at above w id d args =
     if is_exception id d then fixed 16 8
-    else behind (parent_layout above args d.parent) w d (own_shapes room w d args)
+    else behind (ended (parent_layout above args d.parent)) w d (own_shapes room w d args)
 
--- whatever has no such definition adds nothing to an object
-abbrev pub class_of : (Ty → LayoutAnswer) → Facts → DefId → List Ty → Option Def → LayoutAnswer
+-- whatever has no such definition adds nothing to an object; there is no layout where the chain may not go on
+abbrev pub class_of : Option (Ty → LayoutAnswer) → Facts → DefId → List Ty → Option Def → LayoutAnswer
 class_of above w id args None = first
-class_of above w id args (Some d) = class_at above w id d args
+class_of None w id args (Some d) = Bad
+class_of (Some above) w id args (Some d) = class_at above w id d args
 
-abbrev pub class_in : (Ty → LayoutAnswer) → Facts → Ty-F Ty → LayoutAnswer
+abbrev pub class_in : Option (Ty → LayoutAnswer) → Facts → Ty-F Ty → LayoutAnswer
 class_in above w (Ty-F.Inst id args) = class_of above w id args (slice_get w.defs id.0)
 class_in above w _ = first
 
--- a class whose chain of parents has so many members at most, this one counted
+-- a class whose chain of parents may have so many members, this one counted
 unfoldable pub class_layout : ℕ → Facts → Ty → LayoutAnswer
-class_layout zero w t = first
-class_layout (suc n) w t = class_in (class_layout n w) w (out-Ty t)
+class_layout zero w t = class_in None w (out-Ty t)
+class_layout (suc n) w t = class_in (Some (class_layout n w)) w (out-Ty t)
 
 -- an interface has no end and no size; its fields stand from 8
 abbrev pub without_end : Layout → Layout

@@ -58,19 +58,27 @@ abbrev pub IsFound : Facts → Ty → ℕ → Found → Type 0
 IsFound w t room (Settled n) = Fits w t room n
 IsFound w t room Deep = field_shape room w t ≡ answer.Deep
 
--- for each tree that is settled, its note, by the tree's number
-abbrev pub Notes : Type 0
-Notes = HashMap ℕ Note (BuildHasherDefault FoldHasher)
+-- notes by the numbers of trees
+abbrev pub NotesOf : Type 0 → Type 0
+NotesOf N = HashMap ℕ N (BuildHasherDefault FoldHasher)
 
-pub record IsNoteOf (w : Facts) (ts : List Ty) (k : ℕ) (n : Note) : Type 0 where
+-- a note of the k-th tree, which is true of it
+pub record IsNoteOf {N : Type 0} (P : Ty → N → Type 0) (ts : List Ty) (k : ℕ) (n : N) : Type 0 where
   pub of_pool : k < length ts
-  pub note : IsNote w (at ts (record { 0 = k })) n
+  pub note : P (at ts (record { 0 = k })) n
 
-abbrev pub AllNoted : Facts → List Ty → Notes → Type 0
-AllNoted w ts notes = (k : ℕ) (n : Note) → get nat_eq notes k ≡ Some n → IsNoteOf w ts k n
+abbrev pub AllOf : {N : Type 0} → (Ty → N → Type 0) → List Ty → NotesOf N → Type 0
+AllOf {N = N} P ts notes = (k : ℕ) (n : N) → get nat_eq notes k ≡ Some n → IsNoteOf P ts k n
+
+-- for each tree that is settled, what a field of it takes
+abbrev pub ShapeNotes : Type 0
+ShapeNotes = NotesOf Note
+
+abbrev pub AllNoted : Facts → List Ty → ShapeNotes → Type 0
+AllNoted w ts notes = AllOf (IsNote w) ts notes
 
 -- a settled tree is noted
-abbrev pub Kept : Notes → Notes → ℕ → Found → Type 0
+abbrev pub Kept : ShapeNotes → ShapeNotes → ℕ → Found → Type 0
 Kept old new k (Settled n) = Updates nat_eq old new k (Some n)
 Kept old new k Deep = new ≡ old
 

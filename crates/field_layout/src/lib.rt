@@ -5,7 +5,10 @@
 mod answer;
 mod classes;
 mod core_widths;
+mod ends;
 mod fields;
+mod known;
+mod laws;
 mod level;
 mod notes;
 mod own_fields;
@@ -13,5 +16,10 @@ mod top;
 mod walk;
 
 pub use answer::{LayoutAnswer, ShapeAnswer};
-pub use notes::{Note, Notes};
+pub use known::Notes;
+pub use laws::{
+    classes_begin_past_parents, fields_are_aligned, fields_have_offsets, fields_stand_apart,
+    fields_stand_least, references_stand_apart, sizes_cover_fields,
+};
+pub use notes::Note;
 pub use top::{layout, layout_in};

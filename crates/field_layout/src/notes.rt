@@ -28,11 +28,11 @@ pub enum Found {
     Deep,
 }
 
-/// What is known of trees of a pool, by their numbers.
-pub type Notes = HashMap<u32, Note>;
+/// What fields of the trees of a pool take, by the trees' numbers.
+pub type ShapeNotes = HashMap<u32, Note>;
 
 /// What is noted of a tree.
-pub(crate) fn noted(notes: &Notes, id: Id) -> Option<Note>
+pub(crate) fn noted(notes: &ShapeNotes, id: Id) -> Option<Note>
     ensures { result ≡ get nat_eq notes.now id.0 }
 {
     match notes.get(&id.0) {
@@ -42,7 +42,7 @@ pub(crate) fn noted(notes: &Notes, id: Id) -> Option<Note>
 }
 
 /// Notes what is found of a tree.
-pub(crate) fn put_note(notes: &mut Notes, id: Id, note: Note) -> Result<(), Memory>
+pub(crate) fn put_note(notes: &mut ShapeNotes, id: Id, note: Note) -> Result<(), Memory>
     ensures { OnOk result (Updates nat_eq notes.old notes.new id.0 (Some note)) }
 {
     match notes.insert(id.0, note) {
@@ -63,7 +63,7 @@ pub(crate) fn in_room(note: Note, room: u32) -> Found
 }
 
 /// Notes what is settled.
-pub(crate) fn keep(notes: &mut Notes, id: Id, found: Found) -> Result<(), Memory>
+pub(crate) fn keep(notes: &mut ShapeNotes, id: Id, found: Found) -> Result<(), Memory>
     ensures { OnOk result (spec.Kept notes.old notes.new id.0 found) }
 {
     match found {

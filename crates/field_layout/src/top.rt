@@ -2,20 +2,20 @@
 
 ghost use Rattle.std.specs.Prelude.{◌≡◌, ◌<◌, ◌≤◌, true, Some, length, slice_get, IsTrue, IfOk, OnOk};
 ghost use Rattle.type_pool.specs.Trees.{at, at_all, ids_below, Grows};
-ghost use Rattle.field_layout.specs.Notes.{AllNoted, leaf_of};
+ghost use Rattle.field_layout.specs.Notes.{leaf_of};
+ghost use Rattle.field_layout.specs.Ends.{Known};
 ghost use Rattle.field_layout.specs.Fields.{width as spec_width};
 ghost use Rattle.field_layout.specs.Layouts as spec;
 
 use crate::answer::LayoutAnswer;
 use crate::classes::{ROOM, class_at, fixed, head_at, laid_from};
 use crate::core_widths::width;
-use crate::notes::Notes;
+use crate::known::Notes;
 use crate::own_fields::is_interface;
 use crate::walk::fields_in;
 use clr_base::{DefId, Memory};
 use field_places::Layout;
 use std::alloc::Global;
-use std::collections::HashMap;
 use type_pool::{Id, Node, Pool, from_tree};
 use type_tree::{Ty, World};
 
@@ -80,9 +80,9 @@ fn inst(
 ) -> Result<LayoutAnswer, Memory>
     requires exists { id.0 < length world.now.defs }
     requires args { ids_below (length pool.old) args.now ≡ true }
-    requires noted { AllNoted world.now pool.old notes.old }
+    requires known { Known world.now pool.old notes.old }
     ensures grows { Grows pool.old pool.new }
-    ensures noted { OnOk result (AllNoted world.now pool.new notes.new) }
+    ensures known { OnOk result (Known world.now pool.new notes.new) }
     ensures value { IfOk result (λ answer. answer ≡ spec.inst_layout world.now id (at_all pool.old args.now) (spec_width world.now id) (slice_get world.now.defs id.0)) }
 {
     if let Some(size) = width(world, id) {
@@ -90,14 +90,14 @@ fn inst(
     }
     let def = world.def(id);
     if world.is_value_def(id) {
-        let found = fields_in(pool, alloc, world, notes, def, args, ROOM)?;
+        let found = fields_in(pool, alloc, world, &mut notes.shapes, def, args, ROOM)?;
         return laid_from(alloc, world, true, def, 0, &found);
     }
     if is_interface(def) {
-        let found = fields_in(pool, alloc, world, notes, def, args, ROOM)?;
+        let found = fields_in(pool, alloc, world, &mut notes.shapes, def, args, ROOM)?;
         return Ok(bare(laid_from(alloc, world, false, def, 8, &found)?));
     }
-    class_at(pool, alloc, world, notes, id, args, 63)
+    class_at(pool, alloc, world, notes, id, args)
 }
 
 /// The layout of a tree of a pool, by notes that serve many trees of one world. Recurses as deep as the
@@ -111,9 +111,9 @@ pub fn layout_in(
     id: Id,
 ) -> Result<LayoutAnswer, Memory>
     requires within { id.0 < length pool.old }
-    requires noted { AllNoted world.now pool.old notes.old }
+    requires known { Known world.now pool.old notes.old }
     ensures grows { Grows pool.old pool.new }
-    ensures noted { OnOk result (AllNoted world.now pool.new notes.new) }
+    ensures known { OnOk result (Known world.now pool.new notes.new) }
     ensures value { IfOk result (λ answer. answer ≡ spec.layout_of world.now (at pool.old id)) }
 {
     match head_at(alloc, world, pool, id)? {
@@ -130,7 +130,7 @@ pub fn layout(alloc: Global, world: &World, t: &Ty) -> Result<LayoutAnswer, Memo
     ensures { IfOk result (λ answer. answer ≡ spec.layout_of world.now t.now) }
 {
     let mut pool = Pool::new(alloc);
-    let mut notes = HashMap::new(alloc);
+    let mut notes = Notes::new(alloc);
     let id = from_tree(t, &mut pool, alloc)?;
     layout_in(&mut pool, alloc, world, &mut notes, id)
 }

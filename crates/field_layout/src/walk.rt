@@ -11,7 +11,7 @@ ghost use Rattle.field_layout.specs.Shapes as spec;
 
 use crate::fields::{Fields, FieldsFound, add};
 use crate::level::{Level, level_at};
-use crate::notes::{Found, Note, Notes, in_room, keep, noted};
+use crate::notes::{Found, Note, ShapeNotes, in_room, keep, noted};
 use crate::own_fields::{field_types, given_places, rules_of};
 use clr_base::{DefId, Memory};
 use field_places::{Content, Layout, Shape, own_part};
@@ -27,7 +27,7 @@ pub(crate) fn shape_in(
     pool: &mut Pool,
     alloc: Global,
     world: &World,
-    notes: &mut Notes,
+    notes: &mut ShapeNotes,
     id: Id,
     room: u32,
 ) -> Result<Found, Memory>
@@ -50,7 +50,7 @@ fn shape_of_level(
     pool: &mut Pool,
     alloc: Global,
     world: &World,
-    notes: &mut Notes,
+    notes: &mut ShapeNotes,
     id: Id,
     room: u32,
 ) -> Result<Found, Memory>
@@ -86,7 +86,7 @@ fn struct_in(
     pool: &mut Pool,
     alloc: Global,
     world: &World,
-    notes: &mut Notes,
+    notes: &mut ShapeNotes,
     id: Id,
     def: DefId,
     args: &[Id],
@@ -119,7 +119,7 @@ pub(crate) fn fields_in(
     pool: &mut Pool,
     alloc: Global,
     world: &World,
-    notes: &mut Notes,
+    notes: &mut ShapeNotes,
     def: &Def,
     args: &[Id],
     room: u32,
@@ -141,7 +141,7 @@ fn shapes_in(
     pool: &mut Pool,
     alloc: Global,
     world: &World,
-    notes: &mut Notes,
+    notes: &mut ShapeNotes,
     types: &[Id],
     room: u32,
 ) -> Result<FieldsFound, Memory>

@@ -1,16 +1,12 @@
 -- Fields in order: apart, aligned, and within the own part.
-use Rattle.std.proofs.Common.{◌≡◌, ◌≢◌, ◌⊎◌, inl, inr, ℕ, zero, suc, ◌+◌, ◌≤◌, ◌<◌, ◌%◌, Bool, true, false, cond, List, [], ◌∷◌, length, map, Some, slice_get, refl, ap, ◌∙◌, sym, subst, arith, eqb-true, eq-eqb, true≢false}
-use Rattle.std.proofs.lemmas.Bool.{cases_Bool, cases_lt, cases_eq, and_parts}
-use Rattle.field_places.specs.declared.shape.Arrangement.{Arrangement}
-use Rattle.field_places.specs.declared.shape.Arrangement.TheVariants.{Auto, Sequential, Explicit}
-use Rattle.field_places.specs.declared.shape.Content.{Content}
-use Rattle.field_places.specs.declared.shape.Content.TheVariants.{Plain, Holds, Reference}
+use Rattle.std.proofs.Common.{◌≡◌, ◌≢◌, inl, inr, ℕ, zero, suc, ◌+◌, ◌≤◌, ◌%◌, Bool, true, false, List, [], ◌∷◌, length, refl, ap, ◌∙◌, sym, subst, arith, true≢false}
+use Rattle.std.proofs.lemmas.Bool.{cases_Bool, and_parts}
 use Rattle.field_places.specs.declared.shape.Shape.{Shape}
 use Rattle.field_places.specs.Shapes as are
-use Rattle.field_places.specs.Places.{least_at, end_at, end_of, placed, has_rank, end_in_order, in_order}
-use Rattle.field_places.specs.Laws.{Stands, Behind, Apart, Aligned, Covered}
+use Rattle.field_places.specs.Places.{least_at, end_at, end_of, placed}
+use Rattle.field_places.specs.Laws.{Stands, Behind}
 use Rattle.field_places.proofs.Least.{least_at-is}
-use Rattle.field_places.proofs.Orders.{IsShape, shape_is, end_at-above, end_of-above, end_in_order-above, rank_next, rank_places, no_rank}
+use Rattle.field_places.proofs.Orders.{shape_is, end_at-above, end_of-above}
 
 tail_stands : (p : ℕ) (ps : List ℕ) (s : Shape) (ss : List Shape) (i q : ℕ) (t : Shape) → Stands (p ∷ ps) (s ∷ ss) (suc i) q t → Stands ps ss i q t
 tail_stands p ps s ss i q t h = record { at = h.at; takes = h.takes }

@@ -1,12 +1,12 @@
 -- Fields at places that are given.
-use Rattle.std.proofs.Common.{◌≡◌, ◌≢◌, ◌⊎◌, inl, inr, ℕ, zero, suc, ◌+◌, ◌≤◌, ◌<◌, ◌%◌, max, Bool, true, false, not, ◌&&◌, ◌||◌, ◌==◌, nat_le, List, [], ◌∷◌, length, map, Option, Some, None, slice_get, get_or, refl, ap, ap₂, ◌∙◌, sym, subst, arith, eqb-true}
-use Rattle.std.proofs.lemmas.Bool.{cases_Bool, and_parts, leb-true}
+use Rattle.std.proofs.Common.{◌≡◌, inl, inr, ℕ, zero, suc, ◌+◌, ◌≤◌, ◌%◌, max, Bool, true, false, not, ◌||◌, ◌==◌, nat_le, List, [], ◌∷◌, length, map, Option, Some, slice_get, refl, ap, ap₂, ◌∙◌, sym, subst, arith, eqb-true}
+use Rattle.std.proofs.lemmas.Bool.{and_parts, leb-true}
 use Rattle.std.proofs.lemmas.Option.{slice_get_within, get_or_from_slice_get}
 use Rattle.std.specs.List.{list_all}
 use Rattle.field_places.specs.declared.explicit.Span.{Span}
 use Rattle.field_places.specs.declared.shape.Shape.{Shape}
 use Rattle.field_places.specs.Shapes as are
-use Rattle.field_places.specs.Places.{one_given, joined, given, span, apart, all_apart, is_aligned, last_end}
+use Rattle.field_places.specs.Places.{one_given, given, span, apart, all_apart, is_aligned, last_end}
 use Rattle.field_places.specs.Laws.{Stands, Behind, RefsApart, RefsAligned, Covered}
 use Rattle.field_places.proofs.Aparts.{each_from_all}
 use Rattle.field_places.proofs.Packing.{joined_is, one_is}

@@ -1,5 +1,5 @@
 -- The laws of the own part.
-use Rattle.std.proofs.Common.{◌≡◌, ◌≢◌, ◌⊎◌, inl, inr, ℕ, zero, suc, ◌+◌, ◌≤◌, ◌<◌, ◌%◌, max, min, Bool, true, false, cond, ◌&&◌, ◌==◌, nat_lt, List, [], ◌∷◌, length, map, replicate, Option, Some, None, slice_get, refl, ap, ap₂, ◌∙◌, sym, subst, arith, true≢false}
+use Rattle.std.proofs.Common.{◌≡◌, inl, inr, ℕ, zero, suc, ◌+◌, ◌≤◌, ◌<◌, ◌%◌, max, Bool, true, false, cond, ◌&&◌, ◌==◌, nat_lt, List, [], ◌∷◌, length, map, replicate, Option, Some, None, slice_get, refl, ap, ◌∙◌, sym, subst, arith}
 use Rattle.std.proofs.lemmas.Bool.{cases_Bool, and_parts}
 use Rattle.std.specs.List.{list_all}
 use Rattle.field_places.specs.declared.explicit.Span.{Span}
@@ -11,7 +11,7 @@ use Rattle.field_places.specs.declared.layout.Places.{Places}
 use Rattle.field_places.specs.declared.layout.Rules.{Rules}
 use Rattle.field_places.specs.Shapes as are
 use Rattle.field_places.specs.Places.{given, all_apart, is_aligned, last_end, end_in_order, in_order}
-use Rattle.field_places.specs.Layouts.{own_part, own_places, ordered, judged, finished, greatest_align}
+use Rattle.field_places.specs.Layouts.{own_part, own_places, ordered, judged, greatest_align}
 use Rattle.field_places.specs.Laws.{Stands, Behind, Apart, RefsApart, RefsAligned, Aligned, Covered, EachLaid, IsCovered, is_explicit, placed_shapes}
 use Rattle.field_places.proofs.OwnFacts.{sized_is, finished_is, own_part_sound, shape_refs}
 use Rattle.field_places.proofs.Orders.{shape_is}
@@ -35,7 +35,7 @@ laid_is rules begin offsets ss l e =
     let k = sized_is rules.value f.0.offsets (max f.0.end (begin + rules.least_size)) (cond rules.value (greatest_align fields) 8) (are.any_refs ss) l f.2 in
     record { places = f.0; are = f.1; offsets_are = ap (λ x. x.offsets) k.1; end_is = ap (λ x. x.end) k.1 }
 
-ordered_is : (kind : Arrangement) (begin : ℕ) (ss : List Shape) (p : Places) → ordered kind begin ss ≡ Some p → (p.offsets ≡ in_order kind 9 begin ss (replicate (length ss) 0)) × (p.end ≡ end_in_order kind 9 begin ss)
+pub ordered_is : (kind : Arrangement) (begin : ℕ) (ss : List Shape) (p : Places) → ordered kind begin ss ≡ Some p → (p.offsets ≡ in_order kind 9 begin ss (replicate (length ss) 0)) × (p.end ≡ end_in_order kind 9 begin ss)
 ordered_is kind begin ss p e = elim (cases_Bool (nat_lt 1048576 (end_in_order kind 9 begin ss))) [
   | inl over ↦ absurd (let n : ordered kind begin ss ≡ None = rw over refl in let m : None ≡ Some p = sym n ∙ e in cc)
   | inr under ↦
@@ -51,15 +51,15 @@ ordered_laws kind begin ss p sound e =
     let is = ordered_is kind begin ss p e in
     subst (λ (n : ℕ). Done kind begin ss 0 n p.offsets) (sym is.1) (subst (λ (l : List ℕ). Done kind begin ss 0 (end_in_order kind 9 begin ss) l) (sym is.0) (ordered_done kind begin ss sound))
 
-record Judged (begin : ℕ) (o : Option (List Span)) (p : Places) : Type 0 where
-  spans : List Span
-  found : o ≡ Some spans
-  apart : all_apart spans ≡ true
-  aligned : list_all is_aligned spans ≡ true
-  offsets_are : p.offsets ≡ map (λ x. x.start) spans
-  end_is : p.end ≡ last_end begin spans
+pub record Judged (begin : ℕ) (o : Option (List Span)) (p : Places) : Type 0 where
+  pub spans : List Span
+  pub found : o ≡ Some spans
+  pub apart : all_apart spans ≡ true
+  pub aligned : list_all is_aligned spans ≡ true
+  pub offsets_are : p.offsets ≡ map (λ x. x.start) spans
+  pub end_is : p.end ≡ last_end begin spans
 
-judged_is : (begin : ℕ) (o : Option (List Span)) (p : Places) → judged begin o ≡ Some p → Judged begin o p
+pub judged_is : (begin : ℕ) (o : Option (List Span)) (p : Places) → judged begin o ≡ Some p → Judged begin o p
 judged_is begin None p e = absurd (cc)
 judged_is begin (Some xs) p e = elim (cases_Bool (all_apart xs && list_all is_aligned xs)) [
   | inl good ↦

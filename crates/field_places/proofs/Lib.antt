@@ -6,7 +6,12 @@ pub mod LawfulOwn
 pub mod LawfulRanks
 pub mod Least
 pub mod Orders
+pub mod OnlyLeast
 pub mod OwnFacts
 pub mod OwnParts
 pub mod Packing
+pub mod RankRuns
+pub mod StandingGiven
+pub mod StandingLeast
+pub mod StandingOwn
 pub mod Sweeps

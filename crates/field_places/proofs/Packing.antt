@@ -1,7 +1,7 @@
 -- Shapes of fields, and the packing.
-use Rattle.std.proofs.Common.{◌≡◌, ℕ, zero, suc, ◌+◌, ◌≤◌, ◌<◌, max, min, Bool, true, false, cond, not, ◌&&◌, ◌||◌, ◌==◌, nat_le, nat_lt, List, [], ◌∷◌, map, Option, Some, None, refl, ap, ap₂, ◌∙◌, sym, arith, eqb-true, eq-eqb, true≢false, ◌≢◌, inl, inr}
-use Rattle.std.proofs.lemmas.Bool.{cases_Bool, and_parts, or_parts, leb-true, le-leb, lt-ltb, ltb-true, ltb-false}
-use Rattle.std.specs.List.{list_all, list_any}
+use Rattle.std.proofs.Common.{◌≡◌, ℕ, ◌+◌, ◌≤◌, min, true, false, cond, ◌&&◌, ◌||◌, ◌==◌, nat_lt, List, [], ◌∷◌, map, Option, Some, None, refl, ap, ap₂, ◌∙◌, sym, arith, eq-eqb, true≢false, ◌≢◌, inl, inr}
+use Rattle.std.proofs.lemmas.Bool.{cases_Bool, and_parts, or_parts, le-leb, lt-ltb, ltb-false}
+use Rattle.std.specs.List.{list_all}
 use Rattle.field_places.specs.declared.explicit.Span.{Span}
 use Rattle.field_places.specs.declared.shape.Content.{Content}
 use Rattle.field_places.specs.declared.shape.Content.TheVariants.{Plain, Holds, Reference}

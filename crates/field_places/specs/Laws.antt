@@ -1,33 +1,16 @@
 -- What users of layouts rely on.
-use Rattle.std.specs.Prelude.{◌≡◌, ◌≢◌, ℕ, ◌+◌, ◌≤◌, ◌%◌, ◌⊎◌, Bool, true, false, List, Option, Some, slice_get}
+use Rattle.std.specs.Prelude.{◌≡◌, ◌≢◌, ℕ, ◌+◌, ◌≤◌, ◌%◌, Bool, true, false, List, Option, Some}
 use Rattle.field_places.specs.declared.shape.Shape.{Shape}
 use Rattle.field_places.specs.declared.shape.Arrangement.{Arrangement}
 use Rattle.field_places.specs.declared.shape.Arrangement.TheVariants.{Explicit}
 use Rattle.field_places.specs.declared.layout.Layout.{Layout}
 use Rattle.field_places.specs.declared.layout.Rules.{Rules}
-use Rattle.field_places.specs.Shapes.{has_refs, any_refs, arrangement, packed}
 use Rattle.field_places.specs.Layouts.{own_part}
-
--- the i-th field stands at p and takes s
-pub record Stands (places : List ℕ) (ss : List Shape) (i p : ℕ) (s : Shape) : Type 0 where
-  pub at : slice_get places i ≡ Some p
-  pub takes : slice_get ss i ≡ Some s
-
--- one ends before the other begins
-abbrev pub Behind : ℕ → Shape → ℕ → Shape → Type 0
-Behind p s q t = (p + s.size ≤ q) ⊎ (q + t.size ≤ p)
+pub use Rattle.field_places.specs.Standing.{Stands, Behind, RefsApart, RefsAligned, IsOwnPart, placed_shapes}
 
 -- no two fields share a byte
 abbrev pub Apart : List ℕ → List Shape → Type 0
 Apart places ss = (i j p q : ℕ) (s t : Shape) → i ≢ j → Stands places ss i p s → Stands places ss j q t → Behind p s q t
-
--- no field that is or holds a reference shares a byte with another
-abbrev pub RefsApart : List ℕ → List Shape → Type 0
-RefsApart places ss = (i j p q : ℕ) (s t : Shape) → i ≢ j → Stands places ss i p s → Stands places ss j q t → has_refs s ≡ true → Behind p s q t
-
--- what is or holds a reference stands at a multiple of 8
-abbrev pub RefsAligned : List ℕ → List Shape → Type 0
-RefsAligned places ss = (i p : ℕ) (s : Shape) → Stands places ss i p s → has_refs s ≡ true → p % 8 ≡ 0
 
 -- each field stands at a multiple of its alignment
 abbrev pub Aligned : List ℕ → List Shape → Type 0
@@ -46,10 +29,6 @@ EachLaid rules begin offsets ss P = (l : Layout) → own_part rules begin offset
 abbrev pub is_explicit : Arrangement → Bool
 is_explicit Explicit = true
 is_explicit _ = false
-
--- the shapes as they are placed, with alignments that the packing limits
-abbrev pub placed_shapes : Rules → List Shape → List Shape
-placed_shapes rules ss = packed (arrangement (any_refs ss) rules.arrangement) rules.packing ss
 
 -- the own part begins at `begin`, where a parent ends, and each field lies in it
 pub record IsCovered (rules : Rules) (begin : ℕ) (ss : List Shape) (l : Layout) : Type 0 where

@@ -1,9 +1,10 @@
--- The own part of a type: where its own instance fields stand, where they end, and how large it is.
-use Rattle.std.specs.Prelude.{ℕ, ◌+◌, max, Bool, true, not, ◌&&◌, nat_lt, if◌then◌else◌, List, [], ◌∷◌, map, length, replicate, Option, None, Some}
+-- The own part of a type as a number for each field: where its own instance fields stand, where they end, and how large
+-- it is. `Standing` says what a layout is, and the law `fields_stand_least` that this is it and nothing else.
+use Rattle.std.specs.Prelude.{ℕ, ◌+◌, max, Bool, ◌&&◌, nat_lt, if◌then◌else◌, List, [], ◌∷◌, map, length, replicate, Option, None, Some}
 use Rattle.std.specs.List.{list_all}
 use Rattle.field_places.specs.declared.shape.Shape.{Shape}
 use Rattle.field_places.specs.declared.shape.Arrangement.{Arrangement}
-use Rattle.field_places.specs.declared.shape.Arrangement.TheVariants.{Auto, Sequential, Explicit}
+use Rattle.field_places.specs.declared.shape.Arrangement.TheVariants.{Explicit}
 use Rattle.field_places.specs.declared.explicit.Span.{Span}
 use Rattle.field_places.specs.declared.layout.Layout.{Layout}
 use Rattle.field_places.specs.declared.layout.Places.{Places}

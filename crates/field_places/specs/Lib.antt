@@ -2,3 +2,4 @@ pub mod Laws
 pub mod Layouts
 pub mod Places
 pub mod Shapes
+pub mod Standing

@@ -1,5 +1,5 @@
--- Where fields stand, given what each takes (ECMA-335 II.10.1.2, II.10.7).
-use Rattle.std.specs.Prelude.{◌≡◌, ℕ, zero, suc, ◌+◌, ◌-◌, ◌*◌, ◌/◌, ◌%◌, ◌≤◌, max, Bool, true, false, not, ◌&&◌, ◌||◌, ◌==◌, nat_lt, nat_le, if◌then◌else◌, List, [], ◌∷◌, Option, None, Some}
+-- Where fields stand, given what each takes (ECMA-335 II.10.1.2, II.10.7), as numbers that can be reckoned.
+use Rattle.std.specs.Prelude.{◌≡◌, ℕ, zero, suc, ◌+◌, ◌-◌, ◌*◌, ◌/◌, ◌%◌, ◌≤◌, max, Bool, true, not, ◌&&◌, ◌||◌, ◌==◌, nat_lt, nat_le, if◌then◌else◌, List, [], ◌∷◌, Option, None, Some}
 use Rattle.std.specs.List.{list_all}
 use Rattle.field_places.specs.declared.shape.Arrangement.{Arrangement}
 use Rattle.field_places.specs.declared.shape.Shape.{Shape}

@@ -2,10 +2,10 @@
 use Rattle.std.specs.Prelude.{ℕ, Bool, true, false, ◌&&◌, ◌||◌, ◌==◌, nat_le, if◌then◌else◌, List, min, map}
 use Rattle.std.specs.List.{list_all, list_any}
 use Rattle.field_places.specs.declared.shape.Content.{Content}
-use Rattle.field_places.specs.declared.shape.Content.TheVariants.{Plain, Holds, Reference}
+use Rattle.field_places.specs.declared.shape.Content.TheVariants.{Plain, Reference}
 use Rattle.field_places.specs.declared.shape.Shape.{Shape}
 use Rattle.field_places.specs.declared.shape.Arrangement.{Arrangement}
-use Rattle.field_places.specs.declared.shape.Arrangement.TheVariants.{Auto, Sequential, Explicit}
+use Rattle.field_places.specs.declared.shape.Arrangement.TheVariants.{Auto, Sequential}
 
 -- no end and no size passes this many bytes
 abbrev pub limit : ℕ

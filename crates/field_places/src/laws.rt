@@ -1,11 +1,23 @@
 //! Laws of layouts. Each is a function that does nothing and whose clause is the law.
 
-ghost use Rattle.std.specs.Prelude.{◌≡◌, true, false};
+ghost use Rattle.std.specs.Prelude.{◌≡◌, ◌%◌, true, false, length, Some};
+ghost use Rattle.field_places.specs.declared.layout.Layout.{Layout as Laid};
+ghost use Rattle.field_places.specs.Layouts.{own_part};
 ghost use Rattle.field_places.specs.Laws as spec;
 ghost use Rattle.field_places.specs.Shapes.{are_shapes};
 
 use crate::layout::Rules;
 use crate::shape::Shape;
+
+/// What `own_part` answers is the layout as it is told: each field, in the kind's order, stands at the least
+/// place that is aligned and not below the begin and the ends before it, or at the offset that is given; and
+/// whatever is so is what it answers. So there is no answer exactly where there is no such layout.
+pub fn fields_stand_least(_rules: &Rules, _begin: u32, _offsets: &[Option<u32>], _shapes: &[Shape])
+    requires shapes { are_shapes _shapes.now ≡ true }
+    requires as_long { length _offsets.now ≡ length _shapes.now }
+    ensures answer { spec.EachLaid _rules.now _begin _offsets.now _shapes.now (λ l. spec.IsOwnPart _rules.now _begin _offsets.now _shapes.now l) }
+    ensures only { (l : Laid) → spec.IsOwnPart _rules.now _begin _offsets.now _shapes.now l → own_part _rules.now _begin _offsets.now _shapes.now ≡ Some l }
+{}
 
 /// No two fields share a byte, where no offsets are given.
 pub fn fields_stand_apart(_rules: &Rules, _begin: u32, _offsets: &[Option<u32>], _shapes: &[Shape])
@@ -27,6 +39,13 @@ pub fn fields_are_aligned(_rules: &Rules, _begin: u32, _offsets: &[Option<u32>],
 pub fn fields_are_covered(_rules: &Rules, _begin: u32, _offsets: &[Option<u32>], _shapes: &[Shape])
     requires { are_shapes _shapes.now ≡ true }
     ensures { spec.EachLaid _rules.now _begin _offsets.now _shapes.now (λ l. spec.IsCovered _rules.now _begin _shapes.now l) }
+{}
+
+/// The size is a multiple of the alignment.
+pub fn sizes_are_whole(_rules: &Rules, _begin: u32, _offsets: &[Option<u32>], _shapes: &[Shape])
+    requires shapes { are_shapes _shapes.now ≡ true }
+    requires as_long { length _offsets.now ≡ length _shapes.now }
+    ensures { spec.EachLaid _rules.now _begin _offsets.now _shapes.now (λ l. l.size % l.align ≡ 0) }
 {}
 
 /// No field that is or holds a reference shares a byte with another, and each stands at a multiple of 8,

@@ -10,7 +10,8 @@ mod shape;
 
 pub use explicit::Span;
 pub use laws::{
-    fields_are_aligned, fields_are_covered, fields_stand_apart, references_stand_apart,
+    fields_are_aligned, fields_are_covered, fields_stand_apart, fields_stand_least,
+    references_stand_apart, sizes_are_whole,
 };
 pub use layout::{Layout, OffsetList, Rules};
 pub use own::own_part;

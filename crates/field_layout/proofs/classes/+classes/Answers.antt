@@ -1,72 +1,86 @@
-use Rattle.std.proofs.Common.{◌≡◌, ◌<◌, ◌∙◌, ◌+◌, ◌-◌, suc, ap, ap₂, sym, arith, length, subst, List, [], Some, slice_get}
+use Rattle.std.proofs.Common.{◌<◌, ◌∙◌, ◌+◌, ap, ap₂, sym, arith, length, subst, List, []}
 use Rattle.std.proofs.lemmas.Result.{IfOk-weaker}
 use Rattle.type_tree.specs.declared.tree.Ty.{Ty}
 use Rattle.type_tree.specs.Subst.{subst_ty}
 use Rattle.type_pool.specs.Trees.{at, at_all}
-use Rattle.type_pool.proofs.JobLemmas.{below-grown, at_all-grown}
+use Rattle.type_pool.proofs.JobLemmas.{below-grown, at_all-grown, at-grown, grown_length}
 use Rattle.field_layout.specs.Notes.{IsHead, TypesAre}
 use Rattle.field_layout.specs.Fields.{field_types}
-use Rattle.field_layout.specs.Layouts.{class_layout, class_of, parent_layout}
-use Rattle.field_layout.proofs.Chains.{class_zero, class_some, class_none, class_is}
-use Rattle.field_layout.proofs.Walks.{noted-grown}
+use Rattle.field_layout.specs.Layouts.{behind}
+use Rattle.field_layout.specs.Ends.{IsEnded}
+use Rattle.field_layout.proofs.Chains.{shapes_found}
+use Rattle.field_layout.proofs.EndNotes.{leaf_ended, cut_ended, exception_ended, class_ended, some_parent, ends_kept, known-grown}
+use Rattle.field_layout.proofs.Levels.{exists_at}
 use Rattle.field_layout.proofs.classes.+classes.Goals as goal
 
-pub class_at-fields_in-requires-clause-args : goal.class_at-fields_in-requires-clause-args
-class_at-fields_in-requires-clause-args t c = below-grown _ _ c.in_ok-parent.ensures.grows c.args.args.now c.requires.args
+pub end_at-returns-then-is_exception-clause-found : goal.end_at-returns-then-is_exception-clause-found
+end_at-returns-then-is_exception-clause-found t c =
+    exception_ended c.args.world.now (at c.args.pool.now c.args.id) c.args.head (at_all c.args.pool.now c.args.args.now) c.def-def.result.now c.requires.head c.def-def.ensures.value c.args.parents
+    (sym c.is_exception.ensures ∙ c.if-is_exception.true)
 
-pub class_at-returns-clause-value : goal.class_at-returns-clause-value
-class_at-returns-clause-value t c =
+pub end_at-fields_in-requires-clause-args : goal.end_at-fields_in-requires-clause-args
+end_at-fields_in-requires-clause-args t c = below-grown _ _ c.in_ok-parent.ensures.grows c.args.args.now c.requires.args
+
+pub end_at-returns-clause-known : goal.end_at-returns-clause-known
+end_at-returns-clause-known t c = record {
+  shapes = c.in_ok-found.ensures.noted;
+  ends = (known-grown c.args.world.now c.parent_end.new.pool c.fields_in.new.pool c.in_ok-found.ensures.grows c.parent_end.new.notes c.in_ok-parent.ensures.known).ends;
+}
+
+pub end_at-returns-clause-found : goal.end_at-returns-clause-found
+end_at-returns-clause-found t c =
     let w = c.args.world.now in
-    let args = at_all-grown _ _ c.in_ok-parent.ensures.grows c.args.args.now c.requires.args in
     let d = c.def-def.result.now in
-    let types : TypesAre w (field_types w d (at_all c.args.pool.now c.args.args.now)) 64 c.in_ok-found.found =
-    subst (λ (l : List Ty). TypesAre w (field_types w d l) 64 c.in_ok-found.found) args c.in_ok-found.ensures.found in
-    let is = class_is w (class_layout c.args.parents w) c.args.id d (at_all c.args.pool.now c.args.args.now) c.in_ok-parent.parent c.in_ok-found.found
-    (sym c.is_exception.ensures ∙ c.if-is_exception.false) c.def-def.ensures.value c.in_ok-parent.ensures.value types in
-    IfOk-weaker c.behind.result _ _ (λ a e. e ∙ is) c.behind.ensures.value
+    let args = at_all c.args.pool.now c.args.args.now in
+    let same = at_all-grown _ _ c.in_ok-parent.ensures.grows c.args.args.now c.requires.args in
+    let types : TypesAre w (field_types w d args) 64 c.in_ok-found.found = subst (λ (l : List Ty). TypesAre w (field_types w d l) 64 c.in_ok-found.found) same c.in_ok-found.ensures.found in
+    let is = c.in_ok-answer.ensures.value ∙ ap (behind c.in_ok-parent.parent.end w d) (shapes_found w (field_types w d args) 64 c.in_ok-found.found types) in
+    let all = class_ended w (at c.args.pool.now c.args.id) c.args.head args d c.requires.head c.def-def.ensures.value c.args.parents c.in_ok-parent.parent c.in_ok-answer.answer
+    (sym c.is_exception.ensures ∙ c.if-is_exception.false) c.in_ok-parent.ensures.found is c.in_ok-answer.ensures.short in
+    subst (λ e. IsEnded w (at c.args.pool.now c.args.id) (c.args.parents + 1) (record { members = c.in_ok-parent.parent.members + 1; end = e })) (sym c.end_of.ensures) all
 
-pub class_in-returns-then-chain-eq0-clause-value : goal.class_in-returns-then-chain-eq0-clause-value
-class_in-returns-then-chain-eq0-clause-value t c =
+pub end_in-returns-clause-known : goal.end_in-returns-clause-known
+end_in-returns-clause-known t c =
     let w = c.args.world.now in
-    let t = at c.args.pool.now c.args.id in
-    c.fixed.ensures ∙ sym (ap (λ n. class_layout n w t) c.if-chain-eq0.true ∙ class_zero w t)
+    let found = c.in_ok-found.ensures in
+    let ts = c.args.pool.now in
+    let us = c.end_of_head.new.pool in
+    let longer = grown_length ts us found.grows in
+    let within : c.args.id.0 < length us = omega (arith, longer, c.requires.within) in
+    let is = subst (λ (u : Ty). IsEnded w u c.args.chain c.in_ok-found.found) (sym (at-grown ts us found.grows c.args.id c.requires.within)) found.found in
+    record {
+      shapes = found.known.shapes;
+      ends = ends_kept w us _ _ c.args.id c.args.chain c.in_ok-found.found found.known.ends within is c.in_ok-keep_end.ensures;
+    }
 
-pub class_in-returns-in-Some-clause-value : goal.class_in-returns-in-Some-clause-value
-class_in-returns-in-Some-clause-value t c =
+pub end_of_head-returns-then-chain-eq0-clause-found : goal.end_of_head-returns-then-chain-eq0-clause-found
+end_of_head-returns-then-chain-eq0-clause-found t c =
     let w = c.args.world.now in
     let ts = c.args.pool.now in
-    let t = at ts c.args.id in
-    let head = subst (λ o. IsHead w ts t o) c.in-Some.is c.in_ok-def.ensures in
-    let n = c.args.chain - 1 in
-    let next : c.args.chain ≡ suc n = omega arith in
-    let def = c.in-Some.def in
-    let value = ap (λ k. class_layout k w t) next ∙ class_some n w t def (at_all ts c.in-Some.args) head.0 in
-    let same = ap (λ l. class_of (class_layout n w) w def (at_all ts l) (slice_get w.defs def.0)) c.as_slice.ensures in
-    IfOk-weaker c.class_at.result _ _ (λ a e. e ∙ same ∙ sym value) c.class_at.ensures.value
+    let u = at ts c.args.id in
+    let head = subst (λ o. IsHead w ts u o) c.in-Some.is c.in_ok-def.ensures in
+    let found = exists_at w.defs c.in-Some.def.0 head.1 in
+    let cut = cut_ended w u c.in-Some.def (at_all ts c.in-Some.args) found.0 head.0 found.1 in
+    subst (λ n. IsEnded w u n _) (sym c.if-chain-eq0.true) cut
 
-pub class_in-returns-in-None-clause-value : goal.class_in-returns-in-None-clause-value
-class_in-returns-in-None-clause-value t c =
+pub end_of_head-returns-in-None-clause-found : goal.end_of_head-returns-in-None-clause-found
+end_of_head-returns-in-None-clause-found t c =
     let w = c.args.world.now in
     let ts = c.args.pool.now in
-    let t = at ts c.args.id in
-    let none = subst (λ o. IsHead w ts t o) c.in-None.is c.in_ok-def.ensures in
-    let n = c.args.chain - 1 in
-    let next : c.args.chain ≡ suc n = omega arith in
-    c.fixed-in-None.ensures ∙ sym (ap (λ k. class_layout k w t) next ∙ class_none n w t none)
+    let u = at ts c.args.id in
+    leaf_ended w u c.args.chain (subst (λ o. IsHead w ts u o) c.in-None.is c.in_ok-def.ensures)
 
-pub parent_in-subst-requires-clause-types_in : goal.parent_in-subst-requires-clause-types_in
-parent_in-subst-requires-clause-types_in t c = below-grown _ _ c.in_ok-open-in-Some.ensures.grows c.args.args.now c.requires.args
+pub parent_end-subst-requires-clause-types_in : goal.parent_end-subst-requires-clause-types_in
+parent_end-subst-requires-clause-types_in t c = below-grown _ _ c.in_ok-open-in-Some.ensures.grows c.args.args.now c.requires.args
 
-pub parent_in-class_in-requires : goal.parent_in-class_in-requires
-parent_in-class_in-requires t c =
-    let one = noted-grown c.args.world.now c.args.pool.now c.from_tree.new.pool c.in_ok-open-in-Some.ensures.grows c.args.notes.now c.requires.noted in
-    (omega arith, (c.in_ok-id-in-Some.ensures.spells.within, noted-grown c.args.world.now c.from_tree.new.pool c.subst.new.pool c.in_ok-id-in-Some.ensures.grows c.args.notes.now one))
+pub parent_end-end_in-requires : goal.parent_end-end_in-requires
+parent_end-end_in-requires t c =
+    let one = known-grown c.args.world.now c.args.pool.now c.from_tree.new.pool c.in_ok-open-in-Some.ensures.grows c.args.notes.now c.requires.known in
+    (omega arith, (c.in_ok-id-in-Some.ensures.spells.within, (c.requires.few, known-grown c.args.world.now c.from_tree.new.pool c.subst.new.pool c.in_ok-id-in-Some.ensures.grows c.args.notes.now one)))
 
-pub parent_in-returns-in_ok-id-in-Some-clause-value : goal.parent_in-returns-in_ok-id-in-Some-clause-value
-parent_in-returns-in_ok-id-in-Some-clause-value t c =
+pub parent_end-returns-in_ok-id-in-Some-clause-found : goal.parent_end-returns-in_ok-id-in-Some-clause-found
+parent_end-returns-in_ok-id-in-Some-clause-found t c =
     let w = c.args.world.now in
     let args = at_all-grown c.args.pool.now c.from_tree.new.pool c.in_ok-open-in-Some.ensures.grows c.args.args.now c.requires.args in
-    let above = class_layout c.args.parents w in
-    let is = c.in_ok-id-in-Some.ensures.spells.is ∙ ap₂ (λ l t. subst_ty l [] t) args c.in_ok-open-in-Some.ensures.spells.is in
-    let here = ap (parent_layout above (at_all c.args.pool.now c.args.args.now)) c.in-Some.is in
-    IfOk-weaker c.class_in.result _ _ (λ a e. e ∙ ap above is ∙ sym here) c.class_in.ensures.value
+    let is = c.in_ok-id-in-Some.ensures.spells.is ∙ ap₂ (λ l u. subst_ty l [] u) args c.in_ok-open-in-Some.ensures.spells.is in
+    IfOk-weaker c.end_in.result _ _ (λ n h. some_parent w (at_all c.args.pool.now c.args.args.now) _ _ _ c.args.parents n c.in-Some.is is h) c.end_in.ensures.found

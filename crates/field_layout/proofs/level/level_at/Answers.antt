@@ -1,9 +1,8 @@
-use Rattle.std.proofs.Common.{◌≡◌, ◌≤◌, ◌∙◌, ap, sym, length, refl, true, List, arith, subst}
+use Rattle.std.proofs.Common.{◌≡◌, ◌∙◌, ap, sym, length, true, arith, subst}
 use Rattle.std.proofs.lemmas.Result.{IfOk-weaker}
 use Rattle.type_tree.specs.declared.tree.Ty.TheOpen.{Ty-F}
 use Rattle.type_tree.specs.declared.tree.Ty.TheVariants as ty
 use Rattle.type_tree.specs.declared.tree.Ty.TheViews.{out-Ty}
-use Rattle.type_pool.specs.declared.nodes.Node.TheVariants as node
 use Rattle.type_pool.specs.Trees.{at, at_all, tree_of, parts_below, ids_below}
 use Rattle.type_pool.proofs.Levels.{ids_below-more}
 use Rattle.field_layout.specs.declared.notes.Note.{Note}

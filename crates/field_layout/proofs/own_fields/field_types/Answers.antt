@@ -1,4 +1,4 @@
-use Rattle.std.proofs.Common.{◌≡◌, ◌<◌, ◌≤◌, ◌∙◌, ap, ap₂, sym, arith, true, false, length, List, subst}
+use Rattle.std.proofs.Common.{◌∙◌, sym, arith, List, subst}
 use Rattle.type_tree.proofs.Bounds.{fields_few}
 use Rattle.type_pool.proofs.JobLemmas.{below-grown, at_all-grown}
 use Rattle.type_pool.specs.Trees.{at_all, Spells}

@@ -1,4 +1,4 @@
-use Rattle.std.proofs.Common.{◌≡◌, ◌<◌, ◌≤◌, ◌∙◌, ap, ap₂, sym, arith, true, false, length}
+use Rattle.std.proofs.Common.{◌∙◌, sym, arith}
 use Rattle.type_tree.proofs.Bounds.{fields_few}
 use Rattle.field_layout.proofs.Runs.{run_within, giving_push, giving_skip}
 use Rattle.field_layout.proofs.own_fields.given_places.Goals as goal

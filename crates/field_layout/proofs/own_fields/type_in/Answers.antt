@@ -1,4 +1,4 @@
-use Rattle.std.proofs.Common.{◌≡◌, ap₂, ap, ◌∙◌, []}
+use Rattle.std.proofs.Common.{ap₂, ◌∙◌, []}
 use Rattle.std.proofs.lemmas.Result.{IfOk-weaker}
 use Rattle.type_tree.specs.Subst.{subst_ty}
 use Rattle.type_pool.proofs.JobLemmas.{at_all-grown, below-grown}

@@ -1,4 +1,4 @@
-use Rattle.std.proofs.Common.{◌≡◌, ◌∙◌, ap, sym, slice_get, subst}
+use Rattle.std.proofs.Common.{◌∙◌, ap, sym, slice_get, subst}
 use Rattle.std.proofs.lemmas.Result.{IfOk-weaker}
 use Rattle.type_pool.specs.Trees.{at, at_all}
 use Rattle.field_layout.specs.Notes.{IsHead}

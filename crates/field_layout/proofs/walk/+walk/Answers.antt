@@ -1,15 +1,14 @@
-use Rattle.std.proofs.Common.{◌≡◌, ◌<◌, ◌+◌, ◌∙◌, ap, ap₂, sym, arith, true, false, length, get_or, subst, List, map, Some}
+use Rattle.std.proofs.Common.{◌≡◌, ◌<◌, ◌∙◌, ap, sym, arith, length, get_or, subst, List}
 use Rattle.std.proofs.lemmas.Result.{IfOk-weaker}
-use Rattle.std.specs.List.{slice_get}
 use Rattle.type_tree.specs.declared.tree.Ty.{Ty}
 use Rattle.type_tree.specs.declared.definition.Def.{Def}
 use Rattle.type_pool.specs.declared.nodes.Id.{Id}
 use Rattle.type_pool.specs.Trees.{at, at_all, ids_below}
 use Rattle.field_layout.specs.Fields.{field_types}
-use Rattle.field_layout.specs.Notes.{IsFound, IsStruct, TypesAre, noted_shape}
+use Rattle.field_layout.specs.Notes.{IsFound, IsNote, IsStruct, TypesAre}
 use Rattle.field_layout.specs.Shapes.{field_shape}
 use Rattle.type_pool.proofs.JobLemmas.{grown_length}
-use Rattle.field_layout.proofs.Levels.{struct_found, struct_deep}
+use Rattle.field_layout.proofs.Levels.{struct_found}
 use Rattle.field_layout.proofs.Walks.{kept, noted-grown, found_in_room, found-grown, here_same, shaping_next, stops_deep}
 use Rattle.field_layout.proofs.walk.+walk.Goals as goal
 
@@ -19,7 +18,7 @@ none = record { 0 = 0 }
 pub fields_in-shapes_in-requires : goal.fields_in-shapes_in-requires
 fields_in-shapes_in-requires t c =
     let found = c.in_ok-types.ensures in
-    (omega arith, (ap (ids_below (length c.field_types.new.pool)) c.as_slice.ensures ∙ found.spells.within, noted-grown c.args.world.now c.args.pool.now c.field_types.new.pool found.grows c.args.notes.now c.requires.noted))
+    (omega arith, (ap (ids_below (length c.field_types.new.pool)) c.as_slice.ensures ∙ found.spells.within, noted-grown (IsNote c.args.world.now) c.args.pool.now c.field_types.new.pool found.grows c.args.notes.now c.requires.noted))
 
 pub fields_in-returns-clause-found : goal.fields_in-returns-clause-found
 fields_in-returns-clause-found t c =
