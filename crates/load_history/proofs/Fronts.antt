@@ -6,7 +6,8 @@ use Rattle.word_board.specs.declared.view.Mark.{Mark}
 use Rattle.load_events.specs.Events.{word_of, caller_of}
 use Rattle.load_events.specs.declared.event.Event.{Event}
 use Rattle.load_events.proofs.Words.{same_event}
-use Rattle.load_history.specs.Journal.{StandsAt, ReadsFrom, IsFront, HasFront, JournalRule, Follows, reads_on}
+use Rattle.load_events.specs.Histories.{Follows}
+use Rattle.load_history.specs.Journal.{StandsAt, ReadsFrom, IsFront, HasFront, JournalRule, reads_on}
 
 module _ (cells : ℕ) (all : List Mark) where
   pub reads_snoc : (i : ℕ) (xs : List Event) (e : Event) → ReadsFrom cells all i xs → StandsAt cells all (i + length xs) e → ReadsFrom cells all i (xs ++ e ∷ [])

@@ -28,11 +28,6 @@ module _ (cells : ℕ) (all : List Mark) where
   abbrev pub JournalRule : (List Event → Event → Type 0) → Mark → Type 0
   JournalRule may_follow m = (es : List Event) × (e : Event) × IsFront es × IsNarrow e × (m.place ≡ journal_place cells (length es)) × (m.word ≡ word_of e) × (m.by ≡ caller_of e) × may_follow es e
 
--- each of the later events may come next after those before it
-abbrev pub Follows : (List Event → Event → Type 0) → List Event → List Event → Type 0
-Follows may_follow before [] = Unit {0}
-Follows may_follow before (e ∷ es) = may_follow before e × Follows may_follow (before ++ e ∷ []) es
-
 -- these still hold when more words are set
 
 module _ (cells : ℕ) (xs ys : List Mark) (on : Within xs ys) where

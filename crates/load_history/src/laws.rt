@@ -5,7 +5,8 @@ ghost use Rattle.word_board.specs.Places.{journal_place};
 ghost use Rattle.word_board.specs.declared.view.Mark.{Mark};
 ghost use Rattle.load_events.specs.Events.{word_of, caller_of};
 ghost use Rattle.load_events.specs.declared.event.Event.{Event};
-ghost use Rattle.load_history.specs.Journal.{StandsAt, IsFront, Follows};
+ghost use Rattle.load_events.specs.Histories.{Follows};
+ghost use Rattle.load_history.specs.Journal.{StandsAt, IsFront};
 
 use crate::journal::Journal;
 

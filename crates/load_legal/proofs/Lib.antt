@@ -1,0 +1,4 @@
+mod Runs
+mod LatestEvents
+mod LoadedHandles
+mod WiderNames
