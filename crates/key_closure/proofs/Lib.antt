@@ -1,0 +1,4 @@
+mod ListSteps
+mod NodeSteps
+mod Turns
+mod NodeTurns
