@@ -3,10 +3,9 @@ ghost use Rattle.std.specs.Prelude.{◌<◌, length, IfOk};
 
 use clr_base::{Bytes, DefId, FieldId, Memory, MethId, NameId, SigId};
 use core_types::{CoreParts, core_library};
-use field_layout::{LayoutAnswer, layout, layout_in};
+use field_layout::{LayoutAnswer, Notes, layout, layout_in};
 use sqlite_items::{Items, at};
 use std::alloc::Global;
-use std::collections::HashMap;
 use std::test::Fail;
 use type_pool::{Id, Node, Pool};
 use type_tree::{Def, Field, Ty, TyList, World, WorldFile, WorldParts};
@@ -33,7 +32,7 @@ const INT: Named = Named::Plain(10);
 
 const OBJECT: Named = Named::Plain(0);
 
-const FIELDS: [FieldRow; 24] = [
+const FIELDS: [FieldRow; 26] = [
     // 36: class L { byte a; object o; long b; short c; }
     FieldRow(BYTE, 0, None),
     FieldRow(OBJECT, 0, None),
@@ -71,9 +70,12 @@ const FIELDS: [FieldRow; 24] = [
     // 51: an explicit struct { [0] object o; [4] int i; }
     FieldRow(OBJECT, 0, Some(0)),
     FieldRow(INT, 0, Some(4)),
+    // 52: class { byte a; G<int> g; }
+    FieldRow(BYTE, 0, None),
+    FieldRow(Named::Of(39, 10), 0, None),
 ];
 
-const DEFS: [DefRow; 16] = [
+const DEFS: [DefRow; 17] = [
     DefRow(0, 0, 0, 4),
     DefRow(0, 36, 4, 2),
     DefRow(8, 1, 6, 1),
@@ -90,12 +92,13 @@ const DEFS: [DefRow; 16] = [
     DefRow(0x20, 0, 19, 1),
     DefRow(0, 0, 20, 2),
     DefRow(0x10, 1, 22, 2),
+    DefRow(0, 0, 24, 2),
 ];
 
 /// What is answered: 0, end, size, alignment, whether there are references, and the offsets; 1 for Deep; 2 for Bad.
 type Answer = [u32; 9];
 
-const CASES: [(Named, Answer); 23] = [
+const CASES: [(Named, Answer); 24] = [
     (Named::Plain(36), [0, 27, 32, 8, 1, 26, 8, 16, 24]),
     (Named::Plain(37), [0, 32, 32, 8, 0, 28, 0, 0, 0]),
     (Named::Plain(38), [1, 0, 0, 0, 0, 0, 0, 0, 0]),
@@ -119,6 +122,7 @@ const CASES: [(Named, Answer); 23] = [
     (Named::Plain(49), [0, 0, 0, 8, 0, 8, 0, 0, 0]),
     (Named::Plain(50), [0, 12, 16, 8, 0, 8, 0, 0, 0]),
     (Named::Plain(51), [2, 0, 0, 0, 0, 0, 0, 0, 0]),
+    (Named::Plain(52), [0, 13, 16, 8, 0, 12, 8, 0, 0]),
 ];
 
 fn plain(alloc: Global, def: u32) -> Ty {
@@ -173,7 +177,7 @@ fn push_defs(alloc: Global, defs: &mut Items<Def>) -> Result<(), Memory> {
 }
 
 /// A file without rows.
-fn file(alloc: Global) -> WorldFile {
+pub(crate) fn file(alloc: Global) -> WorldFile {
     WorldFile {
         first_sig: SigId(0),
         type_defs: 0,
@@ -294,7 +298,7 @@ fn deeper(
 /// How many trees there are for so many levels over a byte, before and after they are laid out; what is answered, and the size.
 fn nested(alloc: Global, world: &World, head: u32, levels: usize) -> Result<[u64; 4], Memory> {
     let mut pool = Pool::new(alloc);
-    let mut notes = HashMap::new(alloc);
+    let mut notes = Notes::new(alloc);
     let byte = pool.intern(Node::Inst(DefId(7), Items::new(alloc)))?;
     let last = deeper(&mut pool, alloc, head, byte, levels)?;
     let before = pool.len() as u64;
@@ -335,7 +339,7 @@ fn layouts_of_types(rt: HostRuntime) -> Result<(), Fail> {
     assert_eq!(rt;
         tell(rt.alloc())?,
         [
-            23, 21, 22, 0, 1048576, 64, 65, 2, 0, 65, 66, 0, 1, 66, 67, 1, 0
+            24, 21, 22, 0, 1048576, 64, 65, 2, 0, 65, 66, 0, 1, 66, 67, 1, 0
         ]
     );
     Ok(())

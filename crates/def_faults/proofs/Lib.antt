@@ -1,0 +1,5 @@
+pub mod Circles
+pub mod Lists
+pub mod Noting
+pub mod Paths
+pub mod Runs

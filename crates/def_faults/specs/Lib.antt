@@ -1,0 +1,9 @@
+pub mod BadInterface
+pub mod BadParent
+pub mod BaseCycle
+pub mod Chains
+pub mod Faults
+pub mod Flags
+pub mod Marks
+pub mod NotFound
+pub mod NotInProfile
