@@ -1,0 +1,4 @@
+pub mod Natural
+pub mod NaturalAccess
+pub mod Residues
+pub mod Stored

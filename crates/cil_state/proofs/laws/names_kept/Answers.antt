@@ -1,0 +1,5 @@
+use Rattle.cil_state.proofs.Renamed as lemma
+use Rattle.cil_state.proofs.laws.names_kept.Goals as goal
+
+pub returns : goal.returns
+returns g c = lemma.run_kept

@@ -1,0 +1,6 @@
+pub mod Meets
+pub mod Operands
+pub mod Forms
+pub mod State
+pub mod Limits
+pub mod Maps
