@@ -1,5 +1,6 @@
 //! Real files, and any writer: the trusted edge. They don't tell what they hold.
 ghost use Rattle.std.specs.Prelude.{◌≡◌, ◌<◌, ◌≤◌, None, IfOk, length};
+ghost use Rattle.std.specs.Io.KnownBytes.{WriteAppends};
 ghost use Rattle.clr_base.specs.Causes.{Counts, FetchCounts, GivenCounts, counted};
 ghost use Rattle.clr_base.specs.Files.{IsFile};
 
@@ -111,6 +112,7 @@ impl<W: Write> Sink for StreamSink<W> {
 
     fn put(&mut self, piece: &[u8]) -> Result<usize, Failed>
         ensures taken { IfOk result (λ n. (n ≤ length piece.now) × (0 < length piece.now → 0 < n)) }
+        ensures wrote { WriteAppends (W.contents self.old.writer) (W.contents self.new.writer) result piece.now }
         ensures cause { Counts self.old.fault_count self.new.fault_count result }
     {
         if piece.is_empty() {
