@@ -1,5 +1,5 @@
 -- What follows from how a run ended.
-use Rattle.std.proofs.Common.{◌≡◌, ◌≢◌, ◌↔◌, ◌⊎◌, inl, inr, ℕ, zero, suc, ◌+◌, ◌-◌, ◌≤◌, List, [], length, Option, None, Some, Result, Ok, Err, IsOk, refl, sym, ap, ◌∙◌, subst, arith, unwrap_or}
+use Rattle.std.proofs.Common.{◌≡◌, ◌≢◌, ◌↔◌, ◌⊎◌, inl, inr, ℕ, zero, suc, ◌+◌, ◌-◌, ◌<◌, ◌≤◌, List, [], length, Option, None, Some, Result, Ok, Err, IsOk, refl, sym, ap, ◌∙◌, subst, arith, unwrap_or}
 use Rattle.std.specs.Prelude.{slice_get}
 use Rattle.std.specs.Option.{option_and_then}
 use Rattle.std.proofs.lemmas.Option.{slice_get_within}
@@ -74,6 +74,11 @@ all_asked : (run : Run) (answer : Result (List ℕ) (ℕ × ImageFault)) → Jud
 all_asked run answer judged =
     judged.calm.asked ∙ ap (λ files. counted_times (length files) run.shelf.calls_before) (files_of run.words judged.files judged.named)
 
+-- no more files are asked for than there are
+calls_within : {calls given n m : ℕ} → ((calls ≡ 0) × (given ≡ 0)) ⊎ (calls ≡ given + 1) → given < n → n ≡ m → calls ≤ m
+calls_within (inl none) few count = omega (arith, none.0, few, count)
+calls_within (inr next) few count = omega (arith, next, few, count)
+
 asked_by : (run : Run) (end : End) → Happened run end → Asked run
 asked_by run Done (text, judged, written) = (length (the_files run.words), omega arith, all_asked run (Ok text) judged)
 asked_by run Usage (none, untouched, calm) = (0, omega arith, calm.asked)
@@ -87,7 +92,7 @@ asked_by run WriteFault (text, judged, cut) = (length (the_files run.words), ome
 asked_by run Memory (short, untouched) =
     let count = ap length (files_of run.words short.files short.named) in
     elim short.cause [
-      | inl few ↦ (few.calls, omega (arith, few.last, few.within, count), few.calm.asked)
+      | inl few ↦ (few.calls, calls_within few.last few.within count, few.calm.asked)
       | inr cut ↦ (length short.files, omega (arith, count), cut.calm.asked)
     ]
 

@@ -1,5 +1,5 @@
 -- One more file that is fetched.
-use Rattle.std.proofs.Common.{◌≡◌, ℕ, zero, suc, ◌+◌, ◌<◌, List, [], ◌∷◌, ◌++◌, map, take, length, get_or, Option, None, Some, Result, Ok, Err, IsOk, Vec, String, Global, refl, sym, ap, ◌∙◌, subst, arith, length-append}
+use Rattle.std.proofs.Common.{◌≡◌, inl, ℕ, zero, suc, ◌+◌, ◌<◌, List, [], ◌∷◌, ◌++◌, map, take, length, get_or, Option, None, Some, Result, Ok, Err, IsOk, Vec, String, Global, refl, sym, ap, ◌∙◌, subst, arith, length-append}
 use Rattle.std.specs.Prelude.{string_bytes, is_ok, if◌then◌else◌}
 use Rattle.std.specs.declared.alloc.AllocError.{AllocError}
 use Rattle.std.specs.Option.{option_and_then, option_map}
@@ -106,8 +106,7 @@ pub none_asked : {X : Type 0} (shelf : Shelved) (names : List (String Global)) (
 none_asked shelf names made e is succeeds calls given faults = record {
   calls = 0;
   given = 0;
-  each = omega arith;
-  last = omega arith;
+  last = inl (refl, refl);
   within = let count = as_many names in let some = not_empty (length names) made e is succeeds in omega arith;
   calm = record { asked = calls; gave = given; faults = faults };
 }

@@ -28,7 +28,7 @@ pub record Answers (run : Run) (err : Written) (s : Status) : Type 0 where
   -- the shelf and the sink for the text fail once where the status says so, and in no other run
   pub read_faults : run.shelf.faults_now ≡ read_faults_after s run.shelf.faults_before
   pub write_faults : run.out.faults_now ≡ write_faults_after s run.out.faults_before
-  -- the shelf is asked once for each file, up to the first whose fetch fails, and for all of them before the first check
+  -- the shelf is asked as often as there are files, or less often where a fetch fails or memory is wanting
   pub asked : (calls : ℕ) × (calls ≤ length (the_files run.words)) × (run.shelf.calls_now ≡ counted_times calls run.shelf.calls_before)
   pub fetched :
       s ≢ status.ReadFault → s ≢ status.Memory → run.shelf.calls_now ≡ counted_times (length (the_files run.words)) run.shelf.calls_before
@@ -49,12 +49,12 @@ pub record Answers (run : Run) (err : Written) (s : Status) : Type 0 where
       (bytes : List (List ℕ)) (text : List ℕ) → told_bytes run.shelf.before run.words ≡ Some bytes → told_names run.words bytes ≡ Ok text
       → s ≢ status.ReadFault → s ≢ status.WriteFault
       → (s ≡ status.Done) ⊎ (s ≡ status.Memory)
-  -- Want of memory hides no fault that is found without memory: where the shelf gave all files, memory ran out at a file that
-  -- passes its checks of headers, streams and tables, behind files that pass all of theirs, or behind all of them
+  -- Where the shelf gave all files, memory ran out at a file that passes its checks of headers, streams and tables, behind files
+  -- that pass all of theirs, or behind all of them. A run doesn't tell which: it may have been the first.
   pub memory :
       (bytes : List (List ℕ)) → told_bytes run.shelf.before run.words ≡ Some bytes → s ≡ status.Memory
       → run.shelf.given_now ≡ run.shelf.given_before + length (the_files run.words) → RunsOut bytes
-  -- so the first of the files passes those of headers, streams and tables
+  -- so want of memory hides no fault of the headers, streams or tables of the first file
   pub placed :
       (bytes : List (List ℕ)) (file : List ℕ) → told_bytes run.shelf.before run.words ≡ Some bytes → slice_get bytes 0 ≡ Some file
       → s ≡ status.Memory → run.shelf.given_now ≡ run.shelf.given_before + length (the_files run.words) → IsOk (tables_of file)

@@ -1,5 +1,5 @@
 -- What is fetched from a shelf: the bytes of files, in the order of their names.
-use Rattle.std.specs.Prelude.{◌≡◌, ℕ, ◌+◌, ◌<◌, ◌≤◌, List, [], ◌∷◌, length, take, Option, None, Some, slice_get}
+use Rattle.std.specs.Prelude.{◌≡◌, ◌⊎◌, ℕ, ◌+◌, ◌<◌, List, [], ◌∷◌, length, take, Option, None, Some, slice_get}
 use Rattle.std.specs.Option.{option_map, option_and_then}
 use Rattle.clr_base.specs.Causes.{counted, counted_times}
 
@@ -63,7 +63,6 @@ pub record IsUnread (shelf : Shelved) (names : List (List ℕ)) (file : List ℕ
 pub record IsShort (shelf : Shelved) (names : List (List ℕ)) : Type 0 where
   pub calls : ℕ
   pub given : ℕ
-  pub each : given ≤ calls
-  pub last : calls ≤ given + 1
+  pub last : ((calls ≡ 0) × (given ≡ 0)) ⊎ (calls ≡ given + 1)
   pub within : given < length names
   pub calm : IsCalm shelf calls given

@@ -1,4 +1,4 @@
-use Rattle.std.proofs.Common.{List, ℕ, ◌+◌, ◌∙◌, subst, refl, arith}
+use Rattle.std.proofs.Common.{inr, List, ℕ, ◌+◌, ◌∙◌, subst, refl, arith}
 use Rattle.clr_base.specs.Files.{IsFile}
 use Rattle.clr_core.specs.Fetched.{Files}
 use Rattle.clr_core.proofs.Fetching.{fetched_more, no_fault, none_asked, once_more, where_done}
@@ -27,8 +27,7 @@ pub returns-in-Err-Memory-clause-stopped : goal.returns-in-Err-Memory-clause-sto
 returns-in-Err-Memory-clause-stopped g c = record {
   calls = c.loop-k.k + 1;
   given = c.loop-k.k;
-  each = omega arith;
-  last = omega arith;
+  last = inr refl;
   within = omega (arith, c.loop-k-test.true, as_many c.args.names.now);
   calm = record {
     asked = once_more c.loop-k.k _ _ _ c.fetch.ensures.asked c.loop-k.invariant.asked;
