@@ -1,8 +1,5 @@
 -- The virtual instance methods of a run, one by one.
-use Rattle.std.proofs.Common.{◌≡◌, ℕ, zero, suc, ◌+◌, Bool, true, false, cond, List, [], ◌∷◌, ◌++◌, filter, Some, slice_get, refl, ap, ◌∙◌, sym, add-one, append-nil, append_assoc, arith}
-use Rattle.std.proofs.lemmas.List.{map-append}
-use Rattle.std.proofs.lemmas.List.Elements.{filter_map-append, filter-append}
-use Rattle.std.specs.List.{filter_map, range_with_len}
+use Rattle.std.proofs.Common.{◌≡◌, ℕ, Result, Ok, Err, IfOk, OnOk, take, drop, zero, suc, ◌+◌, List, [], ◌∷◌, ◌++◌, Option, None, Some, slice_get, refl, ap, ◌∙◌, sym, add-one, append-nil, append_assoc, arith}
 use Rattle.type_tree.specs.declared.definition.Method.{Method}
 use Rattle.type_tree.specs.declared.tree.Ty.{Ty}
 use Rattle.type_tree.specs.World.{Facts}
@@ -11,34 +8,24 @@ use Rattle.type_pool.proofs.Gets.{get_grows}
 use Rattle.type_pool.proofs.JobLemmas.{grown_length, at-grown, at_all-grown, below-grown}
 use Rattle.method_slots.specs.declared.numbers.Virtual.{Virtual}
 use Rattle.method_slots.specs.declared.opens.OpenMethod.{OpenMethod}
-use Rattle.method_slots.specs.Keyed.{IsNamed, AreNamed, IsVirtual, AreVirtuals}
+use Rattle.method_slots.specs.Keyed.{IsNamed, AreNamed, IsOwn, AreOwn}
 use Rattle.method_slots.specs.Opens.{Open, open_at, SpellsOpen}
 use Rattle.method_slots.specs.OpenSets.{OpensGrow}
-use Rattle.method_slots.specs.Slots.{takes_slot, with_method, virtuals_in, methods_of}
+use Rattle.method_slots.specs.Slots.{run}
 
-range-more : (a n : ℕ) → range_with_len a (suc n) ≡ range_with_len a n ++ (a + n) ∷ []
-range-more a zero = let e : a ≡ a + 0 = omega arith in ap (λ k. k ∷ []) e
-range-more a (suc n) = let e : (a + 1) + n ≡ a + suc n = omega arith in ap (λ l. a ∷ l) (range-more (a + 1) n ∙ ap (λ k. range_with_len (a + 1) n ++ k ∷ []) e)
+get-drop : {A : Type 0} → (f i : ℕ) (xs : List A) → slice_get (drop f xs) i ≡ slice_get xs (f + i)
+get-drop zero i xs = let e : i ≡ 0 + i = omega arith in ap (slice_get xs) e
+get-drop (suc f) i [] = refl
+get-drop (suc f) i (x ∷ xs) = let e : suc (f + i) ≡ suc f + i = omega arith in get-drop f i xs ∙ ap (slice_get (x ∷ xs)) e
 
-module _ (w : Facts) (first i : ℕ) (m : Method) (here : slice_get w.methods (first + i) ≡ Some m) where
-  abbrev kept : ℕ × Method → Bool
-  kept p = takes_slot p.1
+take-more : {A : Type 0} → (xs : List A) (i : ℕ) (x : A) → slice_get xs i ≡ Some x → take (suc i) xs ≡ take i xs ++ x ∷ []
+take-more [] i x h = absurd (cc)
+take-more (y ∷ ys) zero x h = let e : y ≡ x = cc in ap (λ z. z ∷ []) e
+take-more (y ∷ ys) (suc i) x h = ap (λ l. y ∷ l) (take-more ys i x h)
 
-  abbrev before : List (ℕ × Method)
-  before = filter_map (with_method w) (range_with_len first i)
-
-  one : filter_map (with_method w) (range_with_len first (i + 1)) ≡ before ++ (first + i, m) ∷ []
-  one = rw add-one (ap (filter_map (with_method w)) (range-more first i) ∙ filter_map-append (with_method w) (range_with_len first i) ((first + i) ∷ [])
-      ∙ ap (λ l. before ++ l) (rw here refl))
-
-  more : virtuals_in w first (i + 1) ≡ virtuals_in w first i ++ filter kept ((first + i, m) ∷ [])
-  more = ap (filter kept) one ∙ filter-append kept before ((first + i, m) ∷ [])
-
-  pub one_more : takes_slot m ≡ true → methods_of (virtuals_in w first (i + 1)) ≡ methods_of (virtuals_in w first i) ++ m ∷ []
-  one_more h = ap methods_of (more ∙ ap (λ b. virtuals_in w first i ++ cond b ((first + i, m) ∷ []) []) h) ∙ map-append (λ p. p.1) (virtuals_in w first i) ((first + i, m) ∷ [])
-
-  pub none_more : takes_slot m ≡ false → methods_of (virtuals_in w first (i + 1)) ≡ methods_of (virtuals_in w first i)
-  none_more h = ap methods_of (more ∙ ap (λ b. virtuals_in w first i ++ cond b ((first + i, m) ∷ []) []) h ∙ append-nil (virtuals_in w first i))
+-- a run of one more
+pub one_more : (w : Facts) (first i : ℕ) (m : Method) → slice_get w.methods (first + i) ≡ Some m → run w first (i + 1) ≡ run w first i ++ m ∷ []
+one_more w first i m here = rw add-one (take-more (drop first w.methods) i m (get-drop first i w.methods ∙ here))
 
 pub opens_refl : (os : List OpenMethod) → OpensGrow os os
 opens_refl os = ([], sym (append-nil os))
@@ -64,18 +51,24 @@ module _ (ts us : List Ty) (os ps : List OpenMethod) (g : Grows ts us) (h : Open
   all_named-grown (k ∷ ks) [] a = a
   all_named-grown (k ∷ ks) (s ∷ slots) a = (named-grown k s a.0, all_named-grown ks slots a.1)
 
-  pub virtuals-grown : (vs : List Virtual) (ms : List Method) → AreVirtuals ts os vs ms → AreVirtuals us ps vs ms
-  virtuals-grown [] [] a = a
-  virtuals-grown [] (m ∷ ms) a = a
-  virtuals-grown (v ∷ vs) [] a = a
-  virtuals-grown (v ∷ vs) (m ∷ ms) a = (record { named = named-grown v.key _ a.0.named; newslot = a.0.newslot }, virtuals-grown vs ms a.1)
+  pub own-grown : (vs : List (Option Virtual)) (ms : List Method) → AreOwn ts os vs ms → AreOwn us ps vs ms
+  own-grown [] [] a = a
+  own-grown [] (m ∷ ms) a = a
+  own-grown (v ∷ vs) [] a = a
+  own-grown (None ∷ vs) (m ∷ ms) a = (a.0, own-grown vs ms a.1)
+  own-grown (Some v ∷ vs) (m ∷ ms) a = (record { takes = a.0.takes; named = named-grown v.key _ a.0.named; newslot = a.0.newslot }, own-grown vs ms a.1)
 
-pub virtuals-one : (ts : List Ty) (os : List OpenMethod) (vs : List Virtual) (ms : List Method) (v : Virtual) (m : Method) → AreVirtuals ts os vs ms → IsVirtual ts os v m
-    → AreVirtuals ts os (vs ++ v ∷ []) (ms ++ m ∷ [])
-virtuals-one ts os [] [] v m a b = (b, tt)
-virtuals-one ts os [] (n ∷ ms) v m a b = absurd a
-virtuals-one ts os (u ∷ vs) [] v m a b = absurd a
-virtuals-one ts os (u ∷ vs) (n ∷ ms) v m a b = (a.0, virtuals-one ts os vs ms v m a.1 b)
+pub own-one : (ts : List Ty) (os : List OpenMethod) (vs : List (Option Virtual)) (ms : List Method) (v : Option Virtual) (m : Method) → AreOwn ts os vs ms → IsOwn ts os v m
+    → AreOwn ts os (vs ++ v ∷ []) (ms ++ m ∷ [])
+own-one ts os [] [] v m a b = (b, tt)
+own-one ts os [] (n ∷ ms) v m a b = absurd a
+own-one ts os (u ∷ vs) [] v m a b = absurd a
+own-one ts os (u ∷ vs) (n ∷ ms) v m a b = (a.0, own-one ts os vs ms v m a.1 b)
 
 pub opens_trans : (os ps qs : List OpenMethod) → OpensGrow os ps → OpensGrow ps qs → OpensGrow os qs
 opens_trans os ps qs g h = (g.0 ++ h.0, h.1 ∙ ap (λ l. l ++ h.0) g.1 ∙ append_assoc os g.0 h.0)
+
+-- two facts on Ok together
+pub both_ok : {T E : Type 0} {P : T → Type 0} {Q : Type 0} {R : T → Type 0} (r : Result T E) → IfOk r P → OnOk r Q → ((x : T) → P x → Q → R x) → IfOk r R
+both_ok (Ok x) p q f = f x p q
+both_ok (Err e) p q f = tt

@@ -1,3 +1,5 @@
+pub mod Chains
+pub mod Faults
 pub mod Keyed
 pub mod Numbers
 pub mod OpenSame

@@ -46,8 +46,14 @@ pub fn open_method(pool: &mut Pool, alloc: Global, method: &Method) -> Result<Op
     })
 }
 
-/// Each tree with `types` put in for the variables of a type.
-fn put_in_all(pool: &mut Pool, alloc: Global, ids: &[Id], types: &[Id]) -> Result<Items<Id>, Memory>
+/// Each tree with `types` put in for the variables of a type. Recurses as deep as the trees: test their
+/// marks first.
+pub fn put_in_all(
+    pool: &mut Pool,
+    alloc: Global,
+    ids: &[Id],
+    types: &[Id],
+) -> Result<Items<Id>, Memory>
     requires within { ids_below (length pool.old) ids.now ≡ true }
     requires types_in { ids_below (length pool.old) types.now ≡ true }
     ensures grows { Grows pool.old pool.new }

@@ -1,0 +1,14 @@
+pub mod AnswerLemmas
+pub mod ChainLemmas
+pub mod ClassLemmas
+pub mod DefLemmas
+pub mod HandedLemmas
+pub mod LevelHanding
+pub mod LevelLemmas
+pub mod ListLemmas
+pub mod NoteLemmas
+pub mod NumberLemmas
+pub mod OwnerLemmas
+pub mod PutLemmas
+pub mod RowLemmas
+pub mod ShortLemmas
