@@ -1,0 +1,4 @@
+pub mod Follows
+pub mod Ids
+pub mod Heads
+pub mod Chains
