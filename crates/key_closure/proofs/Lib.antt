@@ -1,4 +1,4 @@
 mod ListSteps
 mod NodeSteps
 mod Turns
-mod NodeTurns
+pub mod NodeTurns

@@ -26,7 +26,7 @@ module _ (ts us : List Ty) (g : Grows ts us) where
       let args = at_all-grown ts us g xs parts.1 in
       λ i. made.Meth (record { owner = owner i; method = m; args = args i })
 
-  key_below-grown : (k : KeyNode) → key_below (length ts) k ≡ true → key_below (length us) k ≡ true
+  pub key_below-grown : (k : KeyNode) → key_below (length ts) k ≡ true → key_below (length us) k ≡ true
   key_below-grown (Tree id) h = more id.0 h
     where
       more : (a : ℕ) → nat_lt a (length ts) ≡ true → nat_lt a (length us) ≡ true

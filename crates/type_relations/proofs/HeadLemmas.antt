@@ -1,5 +1,5 @@
 -- Trees that are neither an instantiation of a definition nor an array.
-use Rattle.std.proofs.Common.{◌≡◌, ℕ, ◌≤◌, ◌<◌, inl, inr, Bool, true, false, List, [], length, Some, None, slice_get, refl, ap, ◌∙◌, sym, arith}
+use Rattle.std.proofs.Common.{◌≡◌, ℕ, ◌≤◌, inl, inr, Bool, true, false, List, [], length, None, slice_get, ap, ◌∙◌, arith}
 use Rattle.std.proofs.lemmas.Option.{slice_get_cases}
 use Rattle.clr_base.specs.declared.ids.DefId.{DefId}
 use Rattle.type_tree.specs.declared.tree.Ty.{Ty}

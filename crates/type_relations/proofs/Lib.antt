@@ -1,2 +1,4 @@
 mod HeadLemmas
 mod ListLemmas
+mod ValueLemmas
+mod ArgumentLemmas

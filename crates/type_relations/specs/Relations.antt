@@ -1,5 +1,5 @@
 -- What a type or method stands on directly: its parents and interfaces, its direct members (I.8.9.9, II.10.1, II.12).
-use Rattle.std.specs.Prelude.{ℕ, Bool, List, [], ◌∷◌, ◌++◌, map, filter, take, drop, Option, None, Some, slice_get}
+use Rattle.std.specs.Prelude.{Bool, if◌then◌else◌, List, [], ◌∷◌, ◌++◌, map, filter, take, drop, Option, None, Some, slice_get}
 use Rattle.std.specs.Option.{option_to_list}
 use Rattle.type_tree.specs.declared.tree.Ty.{Ty}
 use Rattle.type_tree.specs.declared.tree.Ty.TheOpen.{Ty-F}
@@ -10,7 +10,7 @@ use Rattle.type_tree.specs.declared.tree.Key.TheVariants.{Tree, Meth}
 use Rattle.type_tree.specs.declared.definition.Def.{Def}
 use Rattle.type_tree.specs.World.{Facts}
 use Rattle.type_tree.specs.Subst.{subst_ty}
-use Rattle.type_tree.specs.Canon.{canon, canon_ty}
+use Rattle.type_tree.specs.Canon.{canon}
 use Rattle.type_tree.specs.Context.{arguments}
 use Rattle.type_tree.specs.Kinds.{is_value}
 
@@ -58,8 +58,12 @@ abbrev pub supers_of : Facts → Key → List Key
 supers_of w (Tree t) = map Tree (bases w t)
 supers_of w (Meth k) = []
 
--- The direct members. Of a type: its arguments, parent, interfaces, element or value types of own fields, canonical form;
--- of a method: its owner, arguments, canonical form.
-abbrev pub members_of : Facts → Key → List Key
-members_of w (Tree t) = map Tree (arguments t ++ (bases w t ++ (contents w t ++ canon_ty w t ∷ [])))
-members_of w (Meth k) = Tree k.owner ∷ (map Tree k.args ++ canon w (Meth k) ∷ [])
+-- What a key stands on but its canonical form, in order. A type: its arguments, its exact parent and interfaces, an array's
+-- element or the value types of own fields. A method: its owner and its arguments.
+abbrev pub stands_on : Facts → Key → List Ty
+stands_on w (Tree t) = arguments t ++ (bases w t ++ contents w t)
+stands_on w (Meth k) = k.owner ∷ k.args
+
+-- The direct members: what a key stands on, and its canonical form last. A key with a fault of its own has none.
+abbrev pub members_of : (Key → Bool) → Facts → Key → List Key
+members_of is_faulty w k = if is_faulty k then [] else map Tree (stands_on w k) ++ canon w k ∷ []

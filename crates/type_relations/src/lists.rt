@@ -1,7 +1,7 @@
 //! Lists of trees of a pool that grow at their end.
-ghost use Rattle.std.specs.Prelude.{◌≡◌, ◌++◌, ◌∷◌, [], ◌<◌, true, length, OnOk};
+ghost use Rattle.std.specs.Prelude.{◌≡◌, ◌++◌, ◌∷◌, [], ◌<◌, true, length, IfOk, OnOk};
 ghost use Rattle.type_tree.specs.Subst.{subst_ty};
-ghost use Rattle.type_pool.specs.Trees.{at_all, ids_below, Grows};
+ghost use Rattle.type_pool.specs.Trees.{at_all, ids_below, Grows, Spells};
 ghost use Rattle.type_pool.specs.Jobs.{SpellAll};
 ghost use Rattle.type_relations.specs.Relations.{put_in};
 
@@ -10,6 +10,21 @@ use sqlite_items::Items;
 use std::alloc::Global;
 use type_pool::{Id, Pool, from_tree, subst};
 use type_tree::Ty;
+
+/// A tree with these arguments put in.
+pub(crate) fn with_args(
+    pool: &mut Pool,
+    alloc: Global,
+    tree: &Ty,
+    args: &[Id],
+) -> Result<Id, Memory>
+    requires { ids_below (length pool.old) args.now ≡ true }
+    ensures grows { Grows pool.old pool.new }
+    ensures spells { IfOk result (λ id. Spells pool.new id (subst_ty (at_all pool.old args.now) [] tree.now)) }
+{
+    let whole = from_tree(tree, pool, alloc)?;
+    subst(pool, alloc, whole, args, &[])
+}
 
 /// Puts a tree last, with these arguments put in.
 pub(crate) fn push_put_in(
@@ -24,8 +39,7 @@ pub(crate) fn push_put_in(
     ensures grows { Grows pool.old pool.new }
     ensures adds { OnOk result (SpellAll pool.new ids.new (at_all pool.old ids.old ++ subst_ty (at_all pool.old args.now) [] tree.now ∷ [])) }
 {
-    let whole = from_tree(tree, pool, alloc)?;
-    let put = subst(pool, alloc, whole, args, &[])?;
+    let put = with_args(pool, alloc, tree, args)?;
     ids.push(put)?;
     Ok(())
 }
@@ -45,6 +59,16 @@ pub(crate) fn push_all_put_in(
 {
     for tree in trees {
         push_put_in(pool, alloc, ids, tree, args)?;
+    }
+    Ok(())
+}
+
+/// Puts trees last.
+pub(crate) fn push_ids(ids: &mut Items<Id>, more: &[Id]) -> Result<(), Memory>
+    ensures { OnOk result (ids.new ≡ ids.old ++ more.now) }
+{
+    for id in more {
+        ids.push(*id)?;
     }
     Ok(())
 }

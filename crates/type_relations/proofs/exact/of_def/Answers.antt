@@ -1,4 +1,4 @@
-use Rattle.std.proofs.Common.{◌≡◌, ◌++◌, List, ap, ◌∙◌}
+use Rattle.std.proofs.Common.{◌++◌, List, ap, ◌∙◌}
 use Rattle.std.specs.Option.{option_to_list}
 use Rattle.type_pool.specs.declared.nodes.Id.{Id}
 use Rattle.type_pool.specs.Trees.{at_all}

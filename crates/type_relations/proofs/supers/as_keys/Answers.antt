@@ -1,5 +1,4 @@
-use Rattle.std.proofs.Common.{◌≡◌, ◌++◌, [], true, ap, sym, ◌∙◌, length, List, append-nil}
-use Rattle.type_pool.specs.declared.key_nodes.KeyNode.{KeyNode}
+use Rattle.std.proofs.Common.{◌≡◌, ap, ◌∙◌, length}
 use Rattle.type_pool.specs.Keys.{keys_below}
 use Rattle.key_closure.specs.Bounds.{keys_at}
 use Rattle.type_relations.proofs.ListLemmas.{trees, trees_within, trees_are, all_trees}
