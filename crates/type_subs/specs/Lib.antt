@@ -1,0 +1,11 @@
+pub mod Canons
+pub mod Constraints
+pub mod Faults
+pub mod Instances
+pub mod Levels
+pub mod Listing
+pub mod Makers
+pub mod Notes
+pub mod Steps
+pub mod Subs
+pub mod Supers
