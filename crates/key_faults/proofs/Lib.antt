@@ -1,0 +1,2 @@
+mod LevelLemmas
+pub mod Telling
