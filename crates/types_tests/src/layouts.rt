@@ -12,7 +12,7 @@ use type_tree::{Def, Field, Ty, TyList, World, WorldFile, WorldParts};
 
 /// A type: a definition, a definition with one argument that has none, or the owner's argument.
 #[derive(Clone, Copy)]
-enum Named {
+pub(crate) enum Named {
     Plain(u32),
     Of(u32, u32),
     Argument,
@@ -96,7 +96,7 @@ const DEFS: [DefRow; 17] = [
 ];
 
 /// What is answered: 0, end, size, alignment, whether there are references, and the offsets; 1 for Deep; 2 for Bad.
-type Answer = [u32; 9];
+pub(crate) type Answer = [u32; 9];
 
 const CASES: [(Named, Answer); 24] = [
     (Named::Plain(36), [0, 27, 32, 8, 1, 26, 8, 16, 24]),
@@ -129,7 +129,7 @@ fn plain(alloc: Global, def: u32) -> Ty {
     Ty::Inst(DefId(def), Items::new(alloc))
 }
 
-fn tree(alloc: Global, named: Named) -> Result<Ty, Memory> {
+pub(crate) fn tree(alloc: Global, named: Named) -> Result<Ty, Memory> {
     match named {
         Named::Plain(def) => Ok(plain(alloc, def)),
         Named::Of(def, argument) => {
@@ -228,7 +228,7 @@ fn parts(alloc: Global) -> Result<WorldParts, Memory> {
 }
 
 /// The world, which is none where its parts aren't whole.
-fn world(alloc: Global) -> Result<Option<World>, Memory> {
+pub(crate) fn world(alloc: Global) -> Result<Option<World>, Memory> {
     let parts = parts(alloc)?;
     if parts.is_whole() {
         Ok(Some(World::new(parts)))
@@ -244,7 +244,7 @@ fn offset(offsets: &[u32], field: usize) -> u32 {
     }
 }
 
-fn told(answer: LayoutAnswer) -> Answer {
+pub(crate) fn told(answer: LayoutAnswer) -> Answer {
     match answer {
         LayoutAnswer::Laid(layout) => {
             let offsets = layout.offsets.as_slice();
