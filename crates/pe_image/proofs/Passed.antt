@@ -1,12 +1,12 @@
 -- Where all checks pass, each of them does; so the places that `metadata` answers are those of the headers.
 use Rattle.std.proofs.Common.{◌≡◌, ℕ, zero, suc, ◌+◌, ◌*◌, ◌<◌, ◌≤◌, Bool, true, false, cond, List, [], ◌∷◌, length, Result, Ok, Err, refl, sym, ap, arith, get_or}
+use Rattle.std.specs.List.{find}
 use Rattle.std.proofs.lemmas.Bool.{leb-true}
 use Rattle.clr_base.specs.declared.image_fault.ImageFault.{ImageFault}
 use Rattle.clr_base.specs.declared.image_fault.FaultKind.TheVariants.{NotPe}
 use Rattle.clr_base.specs.Checks.{Check, outcome}
 use Rattle.clr_base.proofs.Checks.{outcome_value, passes_at}
-use Rattle.pe_image.specs.Bodies.{body_range, range_by}
-use Rattle.pe_image.specs.Sections.{table_at}
+use Rattle.pe_image.specs.Sections.{covers, sections, table_at}
 use Rattle.pe_image.specs.declared.locate.Places.{Places}
 use Rattle.pe_image.specs.Metadata.{metadata_checks, metadata_of, header_checks, has_section_table, places}
 
@@ -27,9 +27,11 @@ are_found bytes found e =
     let table = table_passes bytes found e in
     record { is = is; table = rw is (leb-true _ _ table) }
 
--- where the body at an RVA stands, by the section table that `metadata` answered
-pub range_found : (bytes : List ℕ) (found : Places) (rva : ℕ) → metadata_of bytes ≡ Ok found
-    → body_range bytes rva ≡ range_by bytes (table_at bytes found.sections_at found.section_count) rva
+-- the section table that `metadata` answered is the file's
+pub sections_found : (bytes : List ℕ) (found : Places) → metadata_of bytes ≡ Ok found → table_at bytes found.sections_at found.section_count ≡ sections bytes
 unfolding places
-range_found bytes found rva e =
-    ap (λ (p : Places). range_by bytes (table_at bytes p.sections_at p.section_count) rva) (sym (are_found bytes found e).is)
+sections_found bytes found e = ap (λ (p : Places). table_at bytes p.sections_at p.section_count) (are_found bytes found e).is
+
+pub section_found : (bytes : List ℕ) (found : Places) (rva : ℕ) → metadata_of bytes ≡ Ok found
+    → find (covers rva) (table_at bytes found.sections_at found.section_count) ≡ find (covers rva) (sections bytes)
+section_found bytes found rva e = ap (find (covers rva)) (sections_found bytes found e)

@@ -1,4 +1,5 @@
 pub mod Bodies
 pub mod Headers
 pub mod Metadata
+pub mod SectionMap
 pub mod Sections

@@ -1,14 +1,15 @@
 //! Method bodies in the file (ECMA-335 II.25.4).
 ghost use Rattle.std.specs.Prelude.{◌≡◌, ◌+◌, ◌*◌, ◌<◌, ◌≤◌, ◌^◌, length, Ok, Some, None, IfOk, IfErr, IfSome};
+ghost use Rattle.std.specs.List.{find};
 ghost use Rattle.std.specs.Option.{option_copied};
 ghost use Rattle.clr_base.specs.declared.image_fault.FaultKind.TheVariants.{OutsideFile};
 ghost use Rattle.pe_image.specs.Bodies as spec;
-ghost use Rattle.pe_image.specs.Bodies.{body_len, body_of, range_by};
+ghost use Rattle.pe_image.specs.Bodies.{body_len, body_of};
 ghost use Rattle.pe_image.specs.Metadata.{metadata_of};
-ghost use Rattle.pe_image.specs.Sections.{table_at};
+ghost use Rattle.pe_image.specs.Sections.{covers, sections};
 
 use crate::locate::Places;
-use crate::sections::SectionTable;
+use crate::sections::{Section, SectionTable};
 use clr_base::{FaultKind, ImageFault, read_u32};
 
 /// The length of a fat header in bytes.
@@ -38,16 +39,17 @@ pub struct BodyRange {
     pub len: u32,
 }
 
-/// Where the body at an RVA stands, by the section table.
-#[tactic(auto, unfolding(crate::specs::Bodies::range_by))]
-fn find_range(bytes: &[u8], table: SectionTable, rva: u32) -> Option<BodyRange>
-    requires { table.at + 40 * table.count ≤ length bytes.now }
-    ensures exact { result ≡ range_by bytes.now (table_at bytes.now table.at table.count) rva }
+/// Where the body at an RVA stands, by the first section that covers it.
+#[tactic(auto, unfolding(crate::specs::Bodies::range_by, crate::specs::Sections::place_by))]
+pub fn find_range(bytes: &[u8], section: Option<Section>, rva: u32) -> Option<BodyRange>
+    requires { section ≡ find (covers rva) (sections bytes.now) }
+    ensures exact { result ≡ spec.body_range bytes.now rva }
     ensures inside { IfSome result (λ range. range.start + range.len ≤ length bytes.now) }
 {
-    let first = table.place_of(bytes, rva, 1)?;
+    let section = section?;
+    let first = section.place_in(bytes, rva, 1)?;
     let len = len_of_body(bytes, first)?;
-    let start = table.place_of(bytes, rva, len)?;
+    let start = section.place_in(bytes, rva, len)?;
     Some(BodyRange {
         start,
         len: len as u32,
@@ -65,7 +67,7 @@ pub fn body_range(bytes: &[u8], places: &Places, rva: u32) -> Option<BodyRange>
         at: places.sections_at as usize,
         count: places.section_count,
     };
-    find_range(bytes, table, rva)
+    find_range(bytes, table.section_of(bytes, rva), rva)
 }
 
 /// The header and code of the method body at an RVA. `OutsideFile` with the RVA where either leaves the file, or where

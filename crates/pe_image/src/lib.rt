@@ -4,7 +4,9 @@
 mod bodies;
 mod headers;
 mod locate;
+mod section_map;
 mod sections;
 
 pub use bodies::{BodyRange, body_at, body_range};
 pub use locate::{Places, metadata};
+pub use section_map::SectionMap;

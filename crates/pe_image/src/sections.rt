@@ -1,9 +1,10 @@
 //! The section table, and where the bytes at an RVA lie in the file.
-ghost use Rattle.std.specs.Prelude.{◌≡◌, ◌+◌, ◌*◌, ◌<◌, ◌≤◌, ◌^◌, length, IfSome};
+ghost use Rattle.std.specs.Prelude.{◌≡◌, ◌+◌, ◌*◌, ◌<◌, ◌≤◌, ◌^◌, length, max, IfOk, IfSome};
 ghost use Rattle.std.specs.List.{find};
 ghost use Rattle.pe_image.specs.Sections.{section_at, covers, table_at, place_in, place_by};
 
-use clr_base::read_u32;
+use clr_base::{Memory, read_u32};
+use std::alloc::Global;
 
 /// The length of a section header in bytes.
 const SECTION_HEADER_LEN: usize = 40;
@@ -31,15 +32,21 @@ fn read_section(bytes: &[u8], at: usize) -> Section
 }
 
 impl Section {
+    /// The first address past the section.
+    pub fn end(&self) -> u64
+        ensures { result ≡ self.now.address + max self.now.virtual_size self.now.raw_size }
+    {
+        u64::from(self.address) + u64::from(self.virtual_size.max(self.raw_size))
+    }
+
     fn covers(&self, rva: u32) -> bool
         ensures { result ≡ covers rva self.now }
     {
-        let size = self.virtual_size.max(self.raw_size);
-        self.address <= rva && u64::from(rva) < u64::from(self.address) + u64::from(size)
+        self.address <= rva && u64::from(rva) < self.end()
     }
 
     /// The place in the file of bytes in the section.
-    fn place_in(&self, bytes: &[u8], rva: u32, len: u64) -> Option<usize>
+    pub fn place_in(&self, bytes: &[u8], rva: u32, len: u64) -> Option<usize>
         requires covered { self.now.address ≤ rva }
         requires short { len < 2 ^ 33 }
         ensures exact { result ≡ place_in bytes.now rva len self.now }
@@ -64,8 +71,21 @@ pub struct SectionTable {
 }
 
 impl SectionTable {
+    /// All sections, in the order of the file.
+    pub fn read(self, alloc: Global, bytes: &[u8]) -> Result<Vec<Section>, Memory>
+        requires { self.at + 40 * self.count ≤ length bytes.now }
+        ensures exact { IfOk result (λ all. all.items ≡ table_at bytes.now self.at self.count) }
+        ensures few { IfOk result (λ all. length all.items < 2 ^ 16) }
+    {
+        Ok(
+            (0..self.count)
+                .map(|k| read_section(bytes, self.at + SECTION_HEADER_LEN * k as usize))
+                .collect(alloc)?,
+        )
+    }
+
     /// The first section that covers an RVA.
-    fn section_of(self, bytes: &[u8], rva: u32) -> Option<Section>
+    pub fn section_of(self, bytes: &[u8], rva: u32) -> Option<Section>
         requires { self.at + 40 * self.count ≤ length bytes.now }
         ensures exact { result ≡ find (covers rva) (table_at bytes.now self.at self.count) }
         ensures starts_before { IfSome result (λ s. s.address ≤ rva) }

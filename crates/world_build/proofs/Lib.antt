@@ -1,4 +1,5 @@
 pub mod BodiesFit
+pub mod BodyMaps
 pub mod Builds
 pub mod CoreFits
 pub mod DefsFit

@@ -1,11 +1,13 @@
 -- Where the bodies of a file's methods stand (ECMA-335 II.22.26, II.25.4).
-use Rattle.std.specs.Prelude.{ℕ, List, map, ◌==◌, Option, None, Some, Result, Ok, Err, if◌then◌else◌}
+use Rattle.std.specs.Prelude.{◌≡◌, ℕ, List, is_some, is_ok, IfSome, map, ◌==◌, Option, None, Some, Result, Ok, Err, if◌then◌else◌}
 use Rattle.clr_base.specs.declared.image_fault.ImageFault.{ImageFault}
 use Rattle.cli_tables.specs.Metadata.{Metadata}
 use Rattle.pe_image.specs.declared.bodies.BodyRange.{BodyRange}
 use Rattle.pe_image.specs.declared.locate.Places.{Places}
+use Rattle.pe_image.specs.declared.section_map.SectionMap.{SectionMap}
 use Rattle.pe_image.specs.Bodies.{body_range}
 use Rattle.pe_image.specs.Metadata.{metadata_of}
+use Rattle.pe_image.specs.SectionMap.{Maps}
 use Rattle.type_tree.specs.declared.parts.BodyPlace.{BodyPlace}
 use Rattle.image_rows.specs.Cells.{rows_of, at}
 
@@ -18,6 +20,11 @@ place_in file (Some r) = record { file = file; start = r.start; len = r.len }
 abbrev pub range_if : Result Places ImageFault → List ℕ → ℕ → Option BodyRange
 range_if (Ok places) bytes rva = body_range bytes rva
 range_if (Err fault) bytes rva = None
+
+-- the sorted sections of a file, none of one whose headers fail
+pub record AreOf (headers : Result Places ImageFault) (bytes : List ℕ) (found : Option SectionMap) : Type 0 where
+  pub whole : is_some found ≡ is_ok headers
+  pub each : IfSome found (λ map. Maps bytes map)
 
 -- the place of a method's body, none where its RVA is 0
 unfoldable pub body_of : List ℕ → ℕ → Metadata → ℕ → Option BodyPlace

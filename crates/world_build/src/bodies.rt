@@ -3,11 +3,12 @@ ghost use Rattle.std.specs.Prelude.{◌≡◌, ◌≤◌, IfOk};
 ghost use Rattle.cli_tables.specs.Layout.{row_count};
 ghost use Rattle.pe_image.specs.Metadata.{metadata_of};
 ghost use Rattle.world_build.specs.Bodies as spec;
+ghost use Rattle.world_build.specs.Bodies.{AreOf};
 
 use cli_tables::Tables;
-use clr_base::{ImageFault, Memory};
+use clr_base::Memory;
 use image_rows::METHOD_DEF;
-use pe_image::{BodyRange, Places, body_range, metadata};
+use pe_image::{BodyRange, SectionMap, metadata};
 use sqlite_items::Items;
 use std::alloc::Global;
 use type_tree::{BodyPlace, with_room};
@@ -33,14 +34,24 @@ fn place_in(file: u32, range: Option<BodyRange>) -> BodyPlace
     }
 }
 
+/// The sections of a file, sorted; none of one whose headers fail.
+fn sections_of(alloc: Global, bytes: &[u8]) -> Result<Option<SectionMap>, Memory>
+    ensures { IfOk result (λ sections. AreOf (metadata_of bytes.now) bytes.now sections) }
+{
+    match metadata(bytes) {
+        Ok(places) => Ok(Some(SectionMap::new(alloc, bytes, &places)?)),
+        Err(_) => Ok(None),
+    }
+}
+
 /// The body at an RVA; there is none in a file whose headers fail, which is not read.
-fn range_if(bytes: &[u8], headers: &Result<Places, ImageFault>, rva: u32) -> Option<BodyRange>
-    requires { headers.now ≡ metadata_of bytes.now }
+fn range_if(bytes: &[u8], sections: &Option<SectionMap>, rva: u32) -> Option<BodyRange>
+    requires { AreOf (metadata_of bytes.now) bytes.now sections.now }
     ensures { result ≡ spec.range_if (metadata_of bytes.now) bytes.now rva }
 {
-    match headers {
-        Ok(places) => body_range(bytes, places, rva),
-        Err(_) => None,
+    match sections {
+        Some(sections) => sections.range(bytes, rva),
+        None => None,
     }
 }
 
@@ -48,12 +59,12 @@ fn range_if(bytes: &[u8], headers: &Result<Places, ImageFault>, rva: u32) -> Opt
 #[tactic(auto, unfolding(crate::specs::Bodies::body_of, cli_tables::specs::Schema::columns))]
 fn body_of(
     bytes: &[u8],
-    headers: &Result<Places, ImageFault>,
+    sections: &Option<SectionMap>,
     file: u32,
     tables: &Tables<'_>,
     row: u32,
 ) -> Option<BodyPlace>
-    requires headers { headers.now ≡ metadata_of bytes.now }
+    requires sections { AreOf (metadata_of bytes.now) bytes.now sections.now }
     requires first { 1 ≤ row }
     requires last { row ≤ row_count tables.now.tables 6 }
     ensures { result ≡ spec.body_of bytes.now file tables.now row }
@@ -62,11 +73,30 @@ fn body_of(
     if rva == 0 {
         return None;
     }
-    Some(place_in(file, range_if(bytes, headers, rva)))
+    Some(place_in(file, range_if(bytes, sections, rva)))
+}
+
+/// The places of the bodies of all methods of a file, row by row, by its sections.
+#[tactic(auto, unfolding(crate::specs::Bodies::file_bodies), using(clr_base::proofs::Ranges::rows_more))]
+fn bodies_in(
+    alloc: Global,
+    bytes: &[u8],
+    sections: &Option<SectionMap>,
+    file: u32,
+    tables: &Tables<'_>,
+) -> Result<Items<Option<BodyPlace>>, Memory>
+    requires { AreOf (metadata_of bytes.now) bytes.now sections.now }
+    ensures { IfOk result (λ bodies. bodies ≡ spec.file_bodies bytes.now file tables.now) }
+{
+    let count = tables.row_count(METHOD_DEF);
+    let mut bodies = with_room(alloc, count as usize)?;
+    for row in 0..count {
+        bodies.push(body_of(bytes, sections, file, tables, row + 1))?;
+    }
+    Ok(bodies)
 }
 
 /// The places of the bodies of all methods of the file with a number, from 1, row by row.
-#[tactic(auto, unfolding(crate::specs::Bodies::file_bodies), using(clr_base::proofs::Ranges::rows_more))]
 pub fn file_bodies(
     alloc: Global,
     bytes: &[u8],
@@ -75,11 +105,6 @@ pub fn file_bodies(
 ) -> Result<Items<Option<BodyPlace>>, Memory>
     ensures { IfOk result (λ bodies. bodies ≡ spec.file_bodies bytes.now file tables.now) }
 {
-    let headers = metadata(bytes);
-    let count = tables.row_count(METHOD_DEF);
-    let mut bodies = with_room(alloc, count as usize)?;
-    for row in 0..count {
-        bodies.push(body_of(bytes, &headers, file, tables, row + 1))?;
-    }
-    Ok(bodies)
+    let sections = sections_of(alloc, bytes)?;
+    bodies_in(alloc, bytes, &sections, file, tables)
 }
