@@ -1,0 +1,3 @@
+pub mod NotesGrow
+mod Firsts
+mod Order
