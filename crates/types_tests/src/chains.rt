@@ -40,11 +40,11 @@ pub(crate) const OBJECT: Named = Named::Plain(0);
 
 pub(crate) const STRING: Named = Named::Plain(18);
 
-const PLAIN: u32 = 0x46;
+pub(crate) const PLAIN: u32 = 0x46;
 
 pub(crate) const NEW: u32 = 0x146;
 
-const FINAL: u32 = 0x166;
+pub(crate) const FINAL: u32 = 0x166;
 
 pub(crate) const ABSTRACT: u32 = 0x546;
 

@@ -8,6 +8,8 @@ mod core_layouts;
 #[cfg(test)]
 mod faults;
 #[cfg(test)]
+mod judged;
+#[cfg(test)]
 mod layouts;
 #[cfg(test)]
 mod maps;

@@ -54,12 +54,12 @@ impl LocalFaults for Arities {
 
 /// A tree with these definitions around it, the innermost first.
 #[derive(Clone, Copy)]
-struct Named(u32, [Option<u32>; 3]);
+pub(crate) struct Named(pub u32, pub [Option<u32>; 3]);
 
-const INT: u32 = 10;
+pub(crate) const INT: u32 = 10;
 
 /// The number that stands for the variable of a definition.
-const VARIABLE: u32 = 1000;
+pub(crate) const VARIABLE: u32 = 1000;
 
 /// A definition: whether it has a generic parameter, its flags, its parent, and its first field, if any.
 #[derive(Clone, Copy)]
@@ -88,7 +88,7 @@ const FIELDS: [Named; 2] = [
     Named(VARIABLE, [None; 3]),
 ];
 
-fn wrap(alloc: Global, def: u32, part: Ty) -> Result<Ty, Memory> {
+pub(crate) fn wrap(alloc: Global, def: u32, part: Ty) -> Result<Ty, Memory> {
     let mut args: TyList = Items::new(alloc);
     args.push(part)?;
     Ok(Ty::Inst(DefId(def), args))
@@ -101,7 +101,7 @@ fn wrap_in(alloc: Global, around: Option<u32>, part: Ty) -> Result<Ty, Memory> {
     }
 }
 
-fn tree(alloc: Global, named: Named) -> Result<Ty, Memory> {
+pub(crate) fn tree(alloc: Global, named: Named) -> Result<Ty, Memory> {
     let Named(number, [first, second, third]) = named;
     let inner = if number == VARIABLE {
         Ty::Var(0)
