@@ -1,0 +1,14 @@
+pub mod Bare
+pub mod Chains
+pub mod Elements
+pub mod Faultless
+pub mod Follows
+pub mod GoodTypes
+pub mod Joined
+pub mod Lists
+pub mod Reached
+pub mod Settled
+pub mod Sound
+pub mod Standing
+pub mod Supers
+pub mod Whole
