@@ -16,3 +16,4 @@ mod walk;
 pub use answers::Interface;
 pub use maps::{MapLevel, MapNotes};
 pub use verdicts::{MapAnswer, interface_map, interface_map_in, slots, slots_in};
+pub use walk::map_of;

@@ -151,7 +151,7 @@ fn def_of(world: &World, id: DefId) -> &Def
 /// or is found now, and so of the members of its chain of parents, of which there are at most `room`. Each
 /// definition is looked at once for all calls with these notes. Recurses as deep as the chain is long, and
 /// as the trees are deep.
-pub(crate) fn map_of(
+pub fn map_of(
     pool: &mut Pool,
     alloc: Global,
     world: &World,

@@ -33,7 +33,7 @@ fn is_value_node(world: &World, node: &Node) -> bool
 }
 
 /// Whether a tree is a value type.
-fn is_value(pool: &Pool, world: &World, id: Id) -> bool
+pub fn is_value(pool: &Pool, world: &World, id: Id) -> bool
     requires { id.0 < length pool.now }
     ensures { result ≡ kinds.is_value world.now (at pool.now id) }
 {

@@ -9,6 +9,7 @@ mod lists;
 mod members;
 mod supers;
 
+pub use contents::is_value;
 pub use exact::bases;
 pub use faults::Faults;
 pub use heads::Head;
