@@ -1,4 +1,4 @@
-mod Runs
-mod LatestEvents
-mod LoadedHandles
-mod WiderNames
+pub mod Runs
+pub mod LatestEvents
+pub mod LoadedHandles
+pub mod WiderNames
