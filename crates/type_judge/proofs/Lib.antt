@@ -1,3 +1,3 @@
 pub mod NotesGrow
-mod Firsts
+pub mod Firsts
 mod Order
