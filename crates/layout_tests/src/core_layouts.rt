@@ -1,7 +1,8 @@
 //! Layouts of the core's types, by their numbers.
-use crate::layouts::{Named, told, tree, world};
+use crate::layouts::{told, worked};
 use clr_base::Memory;
 use field_layout::layout;
+use small_worlds::{Named, tree};
 use std::alloc::Global;
 use std::test::Fail;
 use type_tree::World;
@@ -85,7 +86,7 @@ fn first_wrong(alloc: Global, world: &World) -> Result<usize, Memory> {
 
 /// It, where the parts of the world are whole.
 fn answered(alloc: Global) -> Result<Option<usize>, Memory> {
-    match world(alloc)? {
+    match worked(alloc)? {
         Some(world) => Ok(Some(first_wrong(alloc, &world)?)),
         None => Ok(None),
     }

@@ -1,36 +1,18 @@
 //! Layouts in a world of the core library and a few definitions.
 ghost use Rattle.std.specs.Prelude.{◌<◌, length, IfOk};
 
-use clr_base::{Bytes, DefId, FieldId, Memory, MethId, NameId, SigId};
-use core_types::{CoreParts, core_library};
+use clr_base::{DefId, Memory};
 use field_layout::{LayoutAnswer, Notes, layout, layout_in};
+use small_worlds::{CLASS, DefRow, FieldRow, Named, OBJECT, tree, world};
 use sqlite_items::{Items, at};
 use std::alloc::Global;
 use std::test::Fail;
 use type_pool::{Id, Node, Pool};
-use type_tree::{Def, Field, Ty, TyList, World, WorldFile, WorldParts};
-
-/// A type: a definition, a definition with one argument that has none, or the owner's argument.
-#[derive(Clone, Copy)]
-pub(crate) enum Named {
-    Plain(u32),
-    Of(u32, u32),
-    Argument,
-}
-
-/// A field: its type, flags and offset.
-#[derive(Clone, Copy)]
-struct FieldRow(Named, u32, Option<u32>);
-
-/// A definition: its flags, its parent, its first field, and how many fields it has.
-#[derive(Clone, Copy)]
-struct DefRow(u32, u32, u32, u32);
+use type_tree::World;
 
 const BYTE: Named = Named::Plain(7);
 
 const INT: Named = Named::Plain(10);
-
-const OBJECT: Named = Named::Plain(0);
 
 const FIELDS: [FieldRow; 26] = [
     // 36: class L { byte a; object o; long b; short c; }
@@ -76,23 +58,93 @@ const FIELDS: [FieldRow; 26] = [
 ];
 
 const DEFS: [DefRow; 17] = [
-    DefRow(0, 0, 0, 4),
-    DefRow(0, 36, 4, 2),
-    DefRow(8, 1, 6, 1),
-    DefRow(8, 1, 7, 1),
-    DefRow(8, 1, 8, 2),
-    DefRow(0, 2, 10, 1),
-    DefRow(8, 0, 11, 2),
-    DefRow(0x10, 1, 13, 2),
-    DefRow(0x10, 0, 15, 1),
-    DefRow(0x10, 0, 16, 1),
-    DefRow(0x10, 0, 17, 2),
-    DefRow(0, 45, 19, 0),
-    DefRow(0, 46, 19, 0),
-    DefRow(0x20, 0, 19, 1),
-    DefRow(0, 0, 20, 2),
-    DefRow(0x10, 1, 22, 2),
-    DefRow(0, 0, 24, 2),
+    DefRow {
+        fields: (0, 4),
+        ..CLASS
+    },
+    DefRow {
+        parent: Some(Named::Plain(36)),
+        fields: (4, 2),
+        ..CLASS
+    },
+    DefRow {
+        flags: 8,
+        parent: Some(Named::Plain(1)),
+        fields: (6, 1),
+        ..CLASS
+    },
+    DefRow {
+        flags: 8,
+        parent: Some(Named::Plain(1)),
+        fields: (7, 1),
+        ..CLASS
+    },
+    DefRow {
+        flags: 8,
+        parent: Some(Named::Plain(1)),
+        fields: (8, 2),
+        ..CLASS
+    },
+    DefRow {
+        parent: Some(Named::Plain(2)),
+        fields: (10, 1),
+        ..CLASS
+    },
+    DefRow {
+        flags: 8,
+        fields: (11, 2),
+        ..CLASS
+    },
+    DefRow {
+        flags: 0x10,
+        parent: Some(Named::Plain(1)),
+        fields: (13, 2),
+        ..CLASS
+    },
+    DefRow {
+        flags: 0x10,
+        fields: (15, 1),
+        ..CLASS
+    },
+    DefRow {
+        flags: 0x10,
+        fields: (16, 1),
+        ..CLASS
+    },
+    DefRow {
+        flags: 0x10,
+        fields: (17, 2),
+        ..CLASS
+    },
+    DefRow {
+        parent: Some(Named::Plain(45)),
+        fields: (19, 0),
+        ..CLASS
+    },
+    DefRow {
+        parent: Some(Named::Plain(46)),
+        fields: (19, 0),
+        ..CLASS
+    },
+    DefRow {
+        flags: 0x20,
+        fields: (19, 1),
+        ..CLASS
+    },
+    DefRow {
+        fields: (20, 2),
+        ..CLASS
+    },
+    DefRow {
+        flags: 0x10,
+        parent: Some(Named::Plain(1)),
+        fields: (22, 2),
+        ..CLASS
+    },
+    DefRow {
+        fields: (24, 2),
+        ..CLASS
+    },
 ];
 
 /// What is answered: 0, end, size, alignment, whether there are references, and the offsets; 1 for Deep; 2 for Bad.
@@ -125,116 +177,9 @@ const CASES: [(Named, Answer); 24] = [
     (Named::Plain(52), [0, 13, 16, 8, 0, 12, 8, 0, 0]),
 ];
 
-fn plain(alloc: Global, def: u32) -> Ty {
-    Ty::Inst(DefId(def), Items::new(alloc))
-}
-
-pub(crate) fn tree(alloc: Global, named: Named) -> Result<Ty, Memory> {
-    match named {
-        Named::Plain(def) => Ok(plain(alloc, def)),
-        Named::Of(def, argument) => {
-            let mut args: TyList = Items::new(alloc);
-            args.push(plain(alloc, argument))?;
-            Ok(Ty::Inst(DefId(def), args))
-        }
-        Named::Argument => Ok(Ty::Var(0)),
-    }
-}
-
-fn fields(alloc: Global) -> Result<Items<Field>, Memory> {
-    let mut fields = Items::new(alloc);
-    for row in FIELDS {
-        fields.push(Field {
-            name: NameId(0),
-            def: DefId(0),
-            flags: row.1,
-            ty: tree(alloc, row.0)?,
-            place: row.2,
-        })?;
-    }
-    Ok(fields)
-}
-
-fn push_defs(alloc: Global, defs: &mut Items<Def>) -> Result<(), Memory> {
-    for row in DEFS {
-        defs.push(Def {
-            name: NameId(0),
-            file: 1,
-            flags: row.0,
-            formals: Items::new(alloc),
-            parent: Some(plain(alloc, row.1)),
-            interfaces: Items::new(alloc),
-            first_field: row.2,
-            fields: row.3,
-            first_method: 0,
-            methods: 0,
-            impls: Items::new(alloc),
-            packing: 0,
-            least_size: 0,
-        })?;
-    }
-    Ok(())
-}
-
-/// A file without rows.
-pub(crate) fn file(alloc: Global) -> WorldFile {
-    WorldFile {
-        first_sig: SigId(0),
-        type_defs: 0,
-        type_refs: 0,
-        type_specs: 0,
-        first_field: FieldId(0),
-        fields: 0,
-        loose_fields: 0,
-        first_method: MethId(0),
-        methods: 0,
-        loose_methods: 0,
-        member_refs: Items::new(alloc),
-        method_specs: Items::new(alloc),
-        locals: Items::new(alloc),
-        users: Bytes::new(alloc),
-        bytes: Bytes::new(alloc),
-    }
-}
-
-fn parts(alloc: Global) -> Result<WorldParts, Memory> {
-    let core = core_library(alloc)?;
-    let names = core.names.texts(alloc)?;
-    let CoreParts {
-        mut defs,
-        methods,
-        ..
-    } = core;
-    push_defs(alloc, &mut defs)?;
-    let mut bodies = Items::new(alloc);
-    for _ in 0..methods.len() {
-        bodies.push(None)?;
-    }
-    let mut files = Items::new(alloc);
-    files.push(file(alloc))?;
-    Ok(WorldParts {
-        names,
-        defs,
-        methods,
-        bodies,
-        fields: fields(alloc)?,
-        sigs: Items::new(alloc),
-        roots: Items::new(alloc),
-        files,
-        value_type: DefId(1),
-        enumeration: DefId(2),
-        canon: DefId(22),
-    })
-}
-
-/// The world, which is none where its parts aren't whole.
-pub(crate) fn world(alloc: Global) -> Result<Option<World>, Memory> {
-    let parts = parts(alloc)?;
-    if parts.is_whole() {
-        Ok(Some(World::new(parts)))
-    } else {
-        Ok(None)
-    }
+/// The world of these definitions.
+pub(crate) fn worked(alloc: Global) -> Result<Option<World>, Memory> {
+    world(alloc, &DEFS, &[], &FIELDS)
 }
 
 fn offset(offsets: &[u32], field: usize) -> u32 {
@@ -314,7 +259,7 @@ fn nested(alloc: Global, world: &World, head: u32, levels: usize) -> Result<[u64
 
 /// The first case that is answered otherwise, and what types of many levels are answered.
 fn tell(alloc: Global) -> Result<[u64; 17], Memory> {
-    match world(alloc)? {
+    match worked(alloc)? {
         Some(world) => told_of(alloc, &world),
         None => Ok([0; 17]),
     }

@@ -2,22 +2,20 @@
 ghost use Rattle.std.specs.Prelude.{◌≡◌, ◌<◌, true, length};
 ghost use Rattle.type_pool.specs.Keys.{key_below};
 
-use crate::layouts::file;
-use clr_base::{DefId, Memory, NameId};
-use core_types::{CoreParts, core_library};
+use clr_base::Memory;
 use key_faults::{
     Notes, Told, has_arity_fault, has_bad_argument, has_bad_layout, has_deep_layout, is_expanding,
     is_not_in_profile,
 };
 use key_verdicts::{Judged, Local, LocalFaults, judge_in};
 use load_events::LoadFault;
-use sqlite_items::Items;
+use small_worlds::{ANY, ARGUMENT, CLASS, DefRow, FieldRow, Named, OBJECT, tree, world};
 use std::alloc::Global;
 use std::collections::HashMap;
 use std::test::Fail;
 use type_pool::{KeyNode, Node, Pool, from_tree};
 use type_relations::{MemberNotes, Members};
-use type_tree::{Def, Field, Formal, Ty, TyList, World, WorldParts};
+use type_tree::World;
 
 /// The fault Arity alone.
 #[derive(Drop)]
@@ -52,154 +50,52 @@ impl LocalFaults for Arities {
     ghost right_on = { λ s w ts us notes grows right. tt };
 }
 
-/// A tree with these definitions around it, the innermost first.
-#[derive(Clone, Copy)]
-pub(crate) struct Named(pub u32, pub [Option<u32>; 3]);
-
-pub(crate) const INT: u32 = 10;
-
-/// The number that stands for the variable of a definition.
-pub(crate) const VARIABLE: u32 = 1000;
-
-/// A definition: whether it has a generic parameter, its flags, its parent, and its first field, if any.
-#[derive(Clone, Copy)]
-struct DefRow(bool, u32, Named, Option<u32>);
+const INT: u32 = 10;
 
 const DEFS: [DefRow; 7] = [
     // 36: class B`1; 37: class C`1 : B[C[C[!0]]]; 38: class A : B[B[A]]
-    DefRow(true, 0, Named(0, [None; 3]), None),
-    DefRow(
-        true,
-        0,
-        Named(VARIABLE, [Some(37), Some(37), Some(36)]),
-        None,
-    ),
-    DefRow(false, 0, Named(38, [Some(36), Some(36), None]), None),
+    DefRow {
+        formal: Some(ANY),
+        ..CLASS
+    },
+    DefRow {
+        formal: Some(ANY),
+        parent: Some(Named::ArgumentIn(&[37, 37, 36])),
+        ..CLASS
+    },
+    DefRow {
+        parent: Some(Named::In(38, &[36, 36])),
+        ..CLASS
+    },
     // 39: class D : B, without an argument; 40: class E : D
-    DefRow(false, 0, Named(36, [None; 3]), None),
-    DefRow(false, 0, Named(39, [None; 3]), None),
+    DefRow {
+        parent: Some(Named::Plain(36)),
+        ..CLASS
+    },
+    DefRow {
+        parent: Some(Named::Plain(39)),
+        ..CLASS
+    },
     // 41: struct S { G[S] g; }; 42: struct G`1 { !0 x; }
-    DefRow(false, 8, Named(1, [None; 3]), Some(0)),
-    DefRow(true, 8, Named(1, [None; 3]), Some(1)),
+    DefRow {
+        flags: 8,
+        parent: Some(Named::Plain(1)),
+        fields: (0, 1),
+        ..CLASS
+    },
+    DefRow {
+        flags: 8,
+        formal: Some(ANY),
+        parent: Some(Named::Plain(1)),
+        fields: (1, 1),
+        ..CLASS
+    },
 ];
 
-const FIELDS: [Named; 2] = [
-    Named(41, [Some(42), None, None]),
-    Named(VARIABLE, [None; 3]),
+const FIELDS: [FieldRow; 2] = [
+    FieldRow(Named::Of(42, 41), 0, None),
+    FieldRow(ARGUMENT, 0, None),
 ];
-
-pub(crate) fn wrap(alloc: Global, def: u32, part: Ty) -> Result<Ty, Memory> {
-    let mut args: TyList = Items::new(alloc);
-    args.push(part)?;
-    Ok(Ty::Inst(DefId(def), args))
-}
-
-fn wrap_in(alloc: Global, around: Option<u32>, part: Ty) -> Result<Ty, Memory> {
-    match around {
-        Some(def) => wrap(alloc, def, part),
-        None => Ok(part),
-    }
-}
-
-pub(crate) fn tree(alloc: Global, named: Named) -> Result<Ty, Memory> {
-    let Named(number, [first, second, third]) = named;
-    let inner = if number == VARIABLE {
-        Ty::Var(0)
-    } else {
-        Ty::Inst(DefId(number), Items::new(alloc))
-    };
-    let inner = wrap_in(alloc, first, inner)?;
-    let inner = wrap_in(alloc, second, inner)?;
-    wrap_in(alloc, third, inner)
-}
-
-fn formals(alloc: Global, some: bool) -> Result<Items<Formal>, Memory> {
-    let mut formals = Items::new(alloc);
-    if some {
-        formals.push(Formal {
-            flags: 0,
-            constraints: Items::new(alloc),
-        })?;
-    }
-    Ok(formals)
-}
-
-fn push_def(alloc: Global, defs: &mut Items<Def>, row: DefRow) -> Result<(), Memory> {
-    let DefRow(generic, flags, parent, field) = row;
-    defs.push(Def {
-        name: NameId(0),
-        file: 1,
-        flags,
-        formals: formals(alloc, generic)?,
-        parent: Some(tree(alloc, parent)?),
-        interfaces: Items::new(alloc),
-        first_field: field.unwrap_or(0),
-        fields: if field.is_some() { 1 } else { 0 },
-        first_method: 0,
-        methods: 0,
-        impls: Items::new(alloc),
-        packing: 0,
-        least_size: 0,
-    })?;
-    Ok(())
-}
-
-fn push_field(alloc: Global, fields: &mut Items<Field>, named: Named) -> Result<(), Memory> {
-    fields.push(Field {
-        name: NameId(0),
-        def: DefId(0),
-        flags: 0,
-        ty: tree(alloc, named)?,
-        place: None,
-    })?;
-    Ok(())
-}
-
-fn parts(alloc: Global) -> Result<WorldParts, Memory> {
-    let core = core_library(alloc)?;
-    let names = core.names.texts(alloc)?;
-    let CoreParts {
-        mut defs,
-        methods,
-        ..
-    } = core;
-    for row in DEFS {
-        push_def(alloc, &mut defs, row)?;
-    }
-    let mut fields = Items::new(alloc);
-    for named in FIELDS {
-        push_field(alloc, &mut fields, named)?;
-    }
-    let mut bodies = Items::new(alloc);
-    for _ in 0..methods.len() {
-        bodies.push(None)?;
-    }
-    let mut files = Items::new(alloc);
-    files.push(file(alloc))?;
-    Ok(WorldParts {
-        names,
-        defs,
-        methods,
-        bodies,
-        fields,
-        sigs: Items::new(alloc),
-        roots: Items::new(alloc),
-        files,
-        value_type: DefId(1),
-        enumeration: DefId(2),
-        canon: DefId(22),
-    })
-}
-
-/// The world, which is none where its parts aren't whole.
-fn world(alloc: Global) -> Result<Option<World>, Memory> {
-    let parts = parts(alloc)?;
-    if parts.is_whole() {
-        Ok(Some(World::new(parts)))
-    } else {
-        Ok(None)
-    }
-}
 
 /// The definition that a key's tree instantiates.
 fn head(pool: &Pool, key: &KeyNode) -> u32
@@ -234,11 +130,11 @@ fn judge(alloc: Global, world: &World, named: Named) -> Result<(u32, u32), Memor
 
 const VERDICTS: [(Named, (u32, u32)); 4] = [
     // A, B[B[A]], B[A], Object, B[__Canon], __Canon
-    (Named(38, [None; 3]), (6, 0)),
+    (Named::Plain(38), (6, 0)),
     // E extends D, which extends B without an argument
-    (Named(40, [None; 3]), (36, 2)),
-    (Named(36, [None; 3]), (36, 2)),
-    (Named(40, [Some(36), None, None]), (36, 2)),
+    (Named::Plain(40), (36, 2)),
+    (Named::Plain(36), (36, 2)),
+    (Named::Of(36, 40), (36, 2)),
 ];
 
 /// Whether each verdict is as in the table.
@@ -271,33 +167,18 @@ fn faults(alloc: Global, world: &World, told: &Told, named: Named) -> Result<Fau
 
 const FAULTS: [(Named, Faults); 7] = [
     (
-        Named(INT, [Some(37), None, None]),
+        Named::Of(37, INT),
         [false, false, true, false, false, false],
     ),
+    (Named::Plain(37), [true, false, true, false, false, false]),
+    (Named::Of(36, 3), [false, true, false, false, false, false]),
+    (ARGUMENT, [false, true, false, false, false, false]),
+    (Named::Plain(41), [false, false, false, true, false, false]),
     (
-        Named(37, [None; 3]),
-        [true, false, true, false, false, false],
-    ),
-    (
-        Named(3, [Some(36), None, None]),
-        [false, true, false, false, false, false],
-    ),
-    (
-        Named(VARIABLE, [None; 3]),
-        [false, true, false, false, false, false],
-    ),
-    (
-        Named(41, [None; 3]),
-        [false, false, false, true, false, false],
-    ),
-    (
-        Named(INT, [Some(42), None, None]),
+        Named::Of(42, INT),
         [false, false, false, false, false, false],
     ),
-    (
-        Named(33, [None; 3]),
-        [false, false, false, false, false, true],
-    ),
+    (Named::Plain(33), [false, false, false, false, false, true]),
 ];
 
 fn same(a: Faults, b: Faults) -> bool {
@@ -321,7 +202,7 @@ fn faults_agree(alloc: Global, world: &World) -> Result<bool, Memory> {
 }
 
 fn tell(alloc: Global) -> Result<[bool; 2], Memory> {
-    match world(alloc)? {
+    match world(alloc, &DEFS, &[], &FIELDS)? {
         Some(world) => Ok([verdicts_agree(alloc, &world)?, faults_agree(alloc, &world)?]),
         None => Ok([false, false]),
     }
